@@ -1,0 +1,15 @@
+pub mod Facts
+pub mod Same
+pub mod ListFacts
+pub mod Count
+pub mod Meant
+pub mod Settled
+pub mod Inv
+pub mod Backing
+pub mod Blaming
+pub mod Going
+pub mod Rules
+pub mod Judging
+pub mod Bounds
+pub mod Finding
+pub mod Table
