@@ -21,14 +21,15 @@ vouches w e g = subst (λ (ks : List Key). Vouches w (e .quorum) (e .paper) ks) 
 
 blamed : (w : World) (wrote : Wrote) (e : Entry) → Vouches w (e .quorum) (e .paper) (e .counted) → Blamed w wrote e
 blamed w wrote e v = record {
-    differ = kept-differ (λ (k : Key). k) (λ k. not (wrote k (e .paper))) (e .counted) (v .differ);
-    ours = λ k m. v .ours k (kept-in (λ k. not (wrote k (e .paper))) (e .counted) k m .0);
-    signed = λ k m. v .signed k (kept-in (λ k. not (wrote k (e .paper))) (e .counted) k m .0);
-    not-written = λ k m. kept-in (λ k. not (wrote k (e .paper))) (e .counted) k m .1;
-    enough = at (some-or-all (λ k. wrote k (e .paper)) (e .counted)) }
+  differ = kept-differ (λ (k : Key). k) (λ k. not (wrote k (e .paper))) (e .counted) (v .differ);
+  ours = λ k m. v .ours k (kept-in (λ k. not (wrote k (e .paper))) (e .counted) k m .0);
+  signed = λ k m. v .signed k (kept-in (λ k. not (wrote k (e .paper))) (e .counted) k m .0);
+  not-written = λ k m. kept-in (λ k. not (wrote k (e .paper))) (e .counted) k m .1;
+  enough = at (some-or-all (λ k. wrote k (e .paper)) (e .counted));
+}
   where
     at : ((k : Key) × List·Memᴰ k (e .counted) × T (wrote k (e .paper))) ⊎ (length (e .counted) ≤ length (misused wrote e)) →
-      ((k : Key) × List·Memᴰ k (e .counted) × T (wrote k (e .paper))) ⊎ (e .quorum .threshold ≤ length (misused wrote e))
+        ((k : Key) × List·Memᴰ k (e .counted) × T (wrote k (e .paper))) ⊎ (e .quorum .threshold ≤ length (misused wrote e))
     at (inl h) = inl h
     at (inr h) = inr (omega (arith, v .many))
 
@@ -40,16 +41,18 @@ overlaps w e f g h same =
     let theirs : f .counted ≡ among (h .signers) keys = h .counted ∙ ap (λ (q : Quorum). among (h .signers) (once (q .keys))) (sym same) in
     let need : e .quorum .threshold ≤ length (f .counted) = subst (λ (q : Quorum). q .threshold ≤ length (f .counted)) (sym same) (u .many) in
     let count : length (e .counted) + length (f .counted) ≤ length (among (f .counted) (e .counted)) + length keys =
-      rw (theirs, g .counted) (overlap (g .signers) (h .signers) keys keys (λ k m. m)) in
+    rw (theirs, g .counted) (overlap (g .signers) (h .signers) keys keys (λ k m. m)) in
     let in-both = kept-in (λ k. isIn k (f .counted)) (e .counted) in
     record {
       differ = kept-differ (λ (k : Key). k) (λ k. isIn k (f .counted)) (e .counted) (v .differ);
       ours = λ k m. v .ours k (in-both k m .0);
       signed = λ k m. (v .signed k (in-both k m .0), u .signed k (in-list k (f .counted) .0 (in-both k m .1)));
-      many = omega (arith, v .many, need, count, once-short (e .quorum .keys)) }
+      many = omega (arith, v .many, need, count, once-short (e .quorum .keys));
+    }
 
 pub blames : Blames
 blames = record {
-    enough = λ w r d h e m. vouches w e (by-reached w r h .journal e m);
-    blame = λ w r d h wrote e m. blamed w wrote e (vouches w e (by-reached w r h .journal e m));
-    both = λ w r s d c h i e f m n same. overlaps w e f (by-reached w r h .journal e m) (by-reached w s i .journal f n) same }
+  enough = λ w r d h e m. vouches w e (by-reached w r h .journal e m);
+  blame = λ w r d h wrote e m. blamed w wrote e (vouches w e (by-reached w r h .journal e m));
+  both = λ w r s d c h i e f m n same. overlaps w e f (by-reached w r h .journal e m) (by-reached w s i .journal f n) same;
+}

@@ -50,9 +50,9 @@ count-no false n t = omega arith
 copies-more : (q : Quorum) (p : Metadata) (e : Entry) (j : List Entry) → ¬ (Stands (e .quorum) (e .paper) j) → copies q p j ≤ 1 → copies q p (e ∷ j) ≤ 1
 copies-more q p e j n h = by-test (all (sameQuorum q (e .quorum) ∷ samePaper p (e .paper) ∷ [])) (same-means q p e)
     (λ s.
-      let none = count-none (λ (f : Entry). all (sameQuorum q (f .quorum) ∷ samePaper p (f .paper) ∷ [])) j
-        (λ f m t. let g = same-means q p f .0 t in n (f, m, g .0 ∙ sym (s .0), g .1 ∙ sym (s .1))) in
-      omega (arith, none, count-more (all (sameQuorum q (e .quorum) ∷ samePaper p (e .paper) ∷ [])) (copies q p j) .0))
+    let none = count-none (λ (f : Entry). all (sameQuorum q (f .quorum) ∷ samePaper p (f .paper) ∷ [])) j
+    (λ f m t. let g = same-means q p f .0 t in n (f, m, g .0 ∙ sym (s .0), g .1 ∙ sym (s .1))) in
+    omega (arith, none, count-more (all (sameQuorum q (e .quorum) ∷ samePaper p (e .paper) ∷ [])) (copies q p j) .0))
     (λ s. omega (arith, h, count-no (all (sameQuorum q (e .quorum) ∷ samePaper p (e .paper) ∷ [])) (copies q p j) (λ t. s (same-means q p e .0 t))))
 
 copies-other : (q : Quorum) (p : Metadata) (e : Entry) (j : List Entry) → ¬ (e .paper ≡ p) → copies q p j ≤ 1 → copies q p (e ∷ j) ≤ 1
@@ -106,13 +106,14 @@ fine-noted today root q o j n t f = at (stands q (o .paper) j) refl t
     at : (b : Bool) → stands q (o .paper) j ≡ b → T (b || fits q (entry today q o ∷ j)) → Fine today root (cond b j (entry today q o ∷ j))
     at true e u = f
     at false e u =
-      let h = each _ u in
-      record {
-        all = leb→le (length (entry today q o ∷ j)) 65536 (h .0);
-        each = λ r. under-more r (entry today q o) j (leb→le (under q (entry today q o ∷ j)) 16384 (h .1 .0)) (f .each r);
-        dated = cons-all (λ (e : Entry). e .day ≤ today) (entry today q o) j (omega arith) (f .dated);
-        unrepeated = λ p. unrepeated-more p (entry today q o) j n (λ s. is-false (stands q (o .paper) j) e (stands-means q (o .paper) j .1 s)) (f .unrepeated p);
-        roots = cons-all (λ (e : Entry). (r : Root) → e .paper ≡ ARoot r → r .version ≤ root) (entry today q o) j (no-root today root q o n) (f .roots) }
+        let h = each _ u in
+        record {
+          all = leb→le (length (entry today q o ∷ j)) 65536 (h .0);
+          each = λ r. under-more r (entry today q o) j (leb→le (under q (entry today q o ∷ j)) 16384 (h .1 .0)) (f .each r);
+          dated = cons-all (λ (e : Entry). e .day ≤ today) (entry today q o) j (omega arith) (f .dated);
+          unrepeated = λ p. unrepeated-more p (entry today q o) j n (λ s. is-false (stands q (o .paper) j) e (stands-means q (o .paper) j .1 s)) (f .unrepeated p);
+          roots = cons-all (λ (e : Entry). (r : Root) → e .paper ≡ ARoot r → r .version ≤ root) (entry today q o) j (no-root today root q o n) (f .roots);
+        }
 
 fine-notedIf : (today root : ℕ) (m : Option Quorum) (o : Offer) (j : List Entry) → ¬ (IsRoot (o .paper)) → T (whenAsked m (λ q. room today q o j)) → Fine today root j → Fine today root (notedIf today m o j)
 fine-notedIf today root None o j n t f = f
@@ -130,6 +131,7 @@ unrepeated-root p r e f root j is-e is-f v below u = by-test (samePaper p (ARoot
   where
     none : _≡_ {A = ℕ} (places (ARoot r) j) 0
     none = count-none (λ (g : Entry). samePaper (ARoot r) (g .paper)) j (λ g m t. let h = below g m r (sym (papers .equal (ARoot r) (g .paper) t)) in omega (arith, h, v))
+
     twice : places (ARoot r) (e ∷ (f ∷ j)) ≤ 2
     twice = omega (arith, none, count-more (samePaper (ARoot r) (e .paper)) (places (ARoot r) (f ∷ j)) .0, count-more (samePaper (ARoot r) (f .paper)) (places (ARoot r) j) .0)
 
@@ -150,10 +152,12 @@ fine-root today root old r s j v t f =
       each = λ q. under-more q (entry today own o) (entry today old o ∷ j) own-fits (under-more q (entry today old o) j mid (f .each q));
       dated = cons-all (λ (e : Entry). e .day ≤ today) (entry today own o) (entry today old o ∷ j) (omega arith) (cons-all (λ (e : Entry). e .day ≤ today) (entry today old o) j (omega arith) (f .dated));
       unrepeated = λ p. unrepeated-root p r (entry today own o) (entry today old o) root j refl refl v (f .roots) (f .unrepeated p);
-      roots = cons-all Newest (entry today own o) (entry today old o ∷ j) (newest) (cons-all Newest (entry today old o) j newest (λ e m z i. omega (arith, f .roots e m z i, v))) }
+      roots = cons-all Newest (entry today own o) (entry today old o ∷ j) (newest) (cons-all Newest (entry today old o) j newest (λ e m z i. omega (arith, f .roots e m z i, v)));
+    }
   where
     Newest : Entry → Type 0
     Newest e = (z : Root) → e .paper ≡ ARoot z → z .version ≤ r .version
+
     newest : (z : Root) → ARoot r ≡ ARoot z → z .version ≤ r .version
     newest z i = omega (arith, ap (λ (y : Root). y .version) (root-same r z i))
 
@@ -167,24 +171,27 @@ sound-offer : (h : Snapshot → Digest) (p : Metadata) (s : List Key) (d : Devic
 sound-offer h (ARoot r) s d b =
     let o : Offer = record { paper = ARoot r; signers = s } in
     settled Sound (firstFault (rootChecks d r o)) (takeRoot r o d) d b (λ e.
-      let c = all-pass (rootChecks d r o) e in
-      record { journal = fine-root (d .today) (d .root .version) (d .root .root) r s (d .journal) (eqb→eq (r .version) (d .root .version + 1) (c .1 .1 .0)) (c .1 .1 .1 .0) (b .journal); one-each = b .one-each })
+    let c = all-pass (rootChecks d r o) e in
+    record { journal = fine-root (d .today) (d .root .version) (d .root .root) r s (d .journal) (eqb→eq (r .version) (d .root .version + 1) (c .1 .1 .0)) (c .1 .1 .1 .0) (b .journal); one-each = b .one-each })
 sound-offer h (ATimestamp t) s d b =
     let o : Offer = record { paper = ATimestamp t; signers = s } in
     settled Sound (firstFault (timestampChecks d t o)) (takeTimestamp t o d) d b (λ e.
-      record { journal = fine-noted (d .today) (d .root .version) (d .root .timestamp) o (d .journal) (λ i. i) (all-pass (timestampChecks d t o) e .1 .1 .1 .0) (b .journal); one-each = b .one-each })
+    record { journal = fine-noted (d .today) (d .root .version) (d .root .timestamp) o (d .journal) (λ i. i) (all-pass (timestampChecks d t o) e .1 .1 .1 .0) (b .journal); one-each = b .one-each })
 sound-offer h (ASnapshot x) s d b =
     let o : Offer = record { paper = ASnapshot x; signers = s } in
     settled Sound (firstFault (snapshotChecks h d x o)) (takeSnapshot x o d) d b (λ e. record {
       journal = fine-noted (d .today) (d .root .version) (d .root .snapshot) o (d .journal) (λ i. i) (all-pass (snapshotChecks h d x o) e .1 .1 .1 .1 .0) (b .journal);
-      one-each = kept-differ (λ (k : Signed Targets). k .paper .role) (lists x) (d .targets) (b .one-each) })
+      one-each = kept-differ (λ (k : Signed Targets). k .paper .role) (lists x) (d .targets) (b .one-each);
+    })
 sound-offer h (ATargets t) s d b =
     let o : Offer = record { paper = ATargets t; signers = s } in
     settled Sound (firstFault (targetsChecks d t o)) (takeTargets t o d) d b (λ e. record {
       journal = fine-notedIf (d .today) (d .root .version) (quorumFor d (t .role)) o (d .journal) (λ i. i) (all-pass (targetsChecks d t o) e .1 .1 .1 .1 .0) (b .journal);
       one-each = (
         (λ k m. other-means (t .role) k .0 (kept-in (otherThan (t .role)) (d .targets) k m .1)),
-        kept-differ (λ (k : Signed Targets). k .paper .role) (otherThan (t .role)) (d .targets) (b .one-each)) })
+        kept-differ (λ (k : Signed Targets). k .paper .role) (otherThan (t .role)) (d .targets) (b .one-each),
+      );
+    })
 
 sound-step : (h : Snapshot → Digest) (e : Event) (d : Device) → Sound d → Sound (step h e d .device)
 sound-step h (Offers o) d b = sound-offer h (o .paper) (o .signers) d b

@@ -34,14 +34,20 @@ hand d r q k m t =
       role = decides-eq (k .paper .role) r .0 (h .0);
       enough = enough-means q (k .signers) .0 (h .1 .0);
       newest = current-means (d .snapshot) (k .paper) .0 (h .1 .1 .0);
-      in-time = leb→le (d .today) (k .paper .expires) (h .1 .1 .1 .0) }
+      in-time = leb→le (d .today) (k .paper .expires) (h .1 .1 .1 .0);
+    }
 
 un-hand : (d : Device) (r : ℕ) (q : Quorum) (k : Signed Targets) → Hand d r q k → T (atHand d r q k)
 un-hand d r q k h = all-of _ (
-    decides-eq (k .paper .role) r .1 (h .role),
-    (enough-means q (k .signers) .1 (h .enough),
-    (current-means (d .snapshot) (k .paper) .1 (h .newest),
-    (le→leb (d .today) (k .paper .expires) (h .in-time), tt))))
+  decides-eq (k .paper .role) r .1 (h .role),
+  (
+    enough-means q (k .signers) .1 (h .enough),
+    (
+      current-means (d .snapshot) (k .paper) .1 (h .newest),
+      (le→leb (d .today) (k .paper .expires) (h .in-time), tt),
+    ),
+  ),
+)
 
 -- no targets at hand are found where there are none, and the other way round
 no-hand : (d : Device) (r : ℕ) (q : Quorum) → targetsAt d r q ≡ None → (k : Signed Targets) → ¬ (Hand d r q k)
@@ -54,9 +60,9 @@ the-hand d one r q k h = at (targetsAt d r q) refl
     at : (m : Option (Signed Targets)) → targetsAt d r q ≡ m → m ≡ Some k
     at None e = absurd (no-hand d r q e k h)
     at (Some l) e =
-      let f = first-found (atHand d r q) (d .targets) l e in
-      let g = hand d r q l (f .0) (f .1) in
-      ap Some (differ-same (λ (k : Signed Targets). k .paper .role) (d .targets) one l k (f .0) (h .kept) (g .role ∙ sym (h .role)))
+        let f = first-found (atHand d r q) (d .targets) l e in
+        let g = hand d r q l (f .0) (f .1) in
+        ap Some (differ-same (λ (k : Signed Targets). k .paper .role) (d .targets) one l k (f .0) (h .kept) (g .role ∙ sym (h .role)))
 
 -- FILES
 
@@ -87,8 +93,9 @@ goes R go h path (b ∷ bs) = at (begins (b .prefix) path) refl (go (b .role) (b
   where
     here : begins (b .prefix) path ≡ true → StartsWith (b .prefix) path
     here e = starts (b .prefix) path .0 (is-true (begins (b .prefix) path) e)
+
     at : (c : Bool) → begins (b .prefix) path ≡ c → (a : Found) → R (b .role) (b .quorum) a → (last : Bool) → b .terminating ≡ last → Goes R path bs (through go path bs) →
-      Goes R path (b ∷ bs) (cond c (orOn a last (through go path bs)) (through go path bs))
+        Goes R path (b ∷ bs) (cond c (orOn a last (through go path bs)) (through go path bs))
     at true e (Sure f) k last l rest = take (here e) k is-missing
     at true e Missing k true l rest = stop (here e) k l
     at true e Missing k false l rest = pass (here e) k l rest
@@ -131,8 +138,8 @@ module _ (R : ℕ → Quorum → Found → Type 0) (go : ℕ → Quorum → Foun
       at None e = refl
       at (Some k) e = let f = first-found (atHand d r q) (d .targets) k e in absurd (n k (hand d r q k (f .0) (f .1)))
   comes-is d one r q a (has k h f i) =
-    ap (inTargets go path r) (the-hand d one r q k h) ∙
-    ap (λ (m : Option File). orThrough m (through go path (k .paper .delegations))) (is-first (Fits path) (fits path) (fits-means path) (k .paper .files) f i)
+      ap (inTargets go path r) (the-hand d one r q k h) ∙
+      ap (λ (m : Option File). orThrough m (through go path (k .paper .delegations))) (is-first (Fits path) (fits path) (fits-means path) (k .paper .files) f i)
   comes-is d one r q a (asks k h n g) = ap (inTargets go path r) (the-hand d one r q k h) ∙ (at (fileAt path (k .paper .files)) refl ∙ goes-is g)
     where
       at : (m : Option File) → fileAt path (k .paper .files) ≡ m → orThrough m (through go path (k .paper .delegations)) ≡ through go path (k .paper .delegations)
@@ -146,13 +153,14 @@ finds zero d path r q = refl
 finds (suc n) d path r q = kept (targetsAt d r q) refl (goes (λ s j b. Finds n d path s j b) (λ s j. lookDeep n d path s j) (finds n d path) path)
   where
     files : (k : Signed Targets) → Hand d r q k → (m : Option File) → fileAt path (k .paper .files) ≡ m →
-      Goes (λ s j b. Finds n d path s j b) path (k .paper .delegations) (through (λ s j. lookDeep n d path s j) path (k .paper .delegations)) →
-      Comes (λ s j b. Finds n d path s j b) d path r q (orThrough m (through (λ s j. lookDeep n d path s j) path (k .paper .delegations)))
+        Goes (λ s j b. Finds n d path s j b) path (k .paper .delegations) (through (λ s j. lookDeep n d path s j) path (k .paper .delegations)) →
+        Comes (λ s j b. Finds n d path s j b) d path r q (orThrough m (through (λ s j. lookDeep n d path s j) path (k .paper .delegations)))
     files k h (Some f) e g = has k h f (first-is (Fits path) (fits path) (fits-means path) (k .paper .files) f e)
     files k h None e g = asks k h (first-none (Fits path) (fits path) (fits-means path) (k .paper .files) e) g
+
     kept : (m : Option (Signed Targets)) → targetsAt d r q ≡ m →
-      ((bs : List Delegation) → Goes (λ s j b. Finds n d path s j b) path bs (through (λ s j. lookDeep n d path s j) path bs)) →
-      Comes (λ s j b. Finds n d path s j b) d path r q (inTargets (λ s j. lookDeep n d path s j) path r m)
+        ((bs : List Delegation) → Goes (λ s j b. Finds n d path s j b) path bs (through (λ s j. lookDeep n d path s j) path bs)) →
+        Comes (λ s j b. Finds n d path s j b) d path r q (inTargets (λ s j. lookDeep n d path s j) path r m)
     kept None e g = broken (no-hand d r q e)
     kept (Some k) e g = let f = first-found (atHand d r q) (d .targets) k e in files k (hand d r q k (f .0) (f .1)) (fileAt path (k .paper .files)) refl (g (k .paper .delegations))
 
@@ -169,20 +177,31 @@ standing-means h d = (yes (d .timestamp) refl (d .snapshot) refl, no)
     yes None i o j t = absurd t
     yes (Some u) i None j t = absurd t
     yes (Some u) i (Some x) j t =
-      let c = each _ t in
-      record {
-        timestamp = u; snapshot = x; is-timestamp = i; is-snapshot = j; names = names-means h x u .0 (c .1 .1 .1 .0);
-        root-in-time = leb→le (d .today) (d .root .expires) (c .0);
-        timestamp-in-time = leb→le (d .today) (u .expires) (c .1 .0);
-        snapshot-in-time = leb→le (d .today) (x .expires) (c .1 .1 .0) }
+        let c = each _ t in
+        record {
+          timestamp = u;
+          snapshot = x;
+          is-timestamp = i;
+          is-snapshot = j;
+          names = names-means h x u .0 (c .1 .1 .1 .0);
+          root-in-time = leb→le (d .today) (d .root .expires) (c .0);
+          timestamp-in-time = leb→le (d .today) (u .expires) (c .1 .0);
+          snapshot-in-time = leb→le (d .today) (x .expires) (c .1 .1 .0);
+        }
+
     no : Standing h d → T (standing h d (d .timestamp) (d .snapshot))
     no s =
-      let all-stand : T (standing h d (Some (s .timestamp)) (Some (s .snapshot))) = all-of _ (
-        le→leb (d .today) (d .root .expires) (s .root-in-time),
-        (le→leb (d .today) (s .timestamp .expires) (s .timestamp-in-time),
-        (le→leb (d .today) (s .snapshot .expires) (s .snapshot-in-time),
-        (names-means h (s .snapshot) (s .timestamp) .1 (s .names), tt)))) in
-      rw (s .is-timestamp, s .is-snapshot) all-stand
+        let all-stand : T (standing h d (Some (s .timestamp)) (Some (s .snapshot))) = all-of _ (
+          le→leb (d .today) (d .root .expires) (s .root-in-time),
+          (
+            le→leb (d .today) (s .timestamp .expires) (s .timestamp-in-time),
+            (
+              le→leb (d .today) (s .snapshot .expires) (s .snapshot-in-time),
+              (names-means h (s .snapshot) (s .timestamp) .1 (s .names), tt),
+            ),
+          ),
+        ) in
+        rw (s .is-timestamp, s .is-snapshot) all-stand
 
 allowed : (h : Snapshot → Digest) (d : Device) (path : Steps) → Allows h d path (look h d path)
 allowed h d path = at (standing h d (d .timestamp) (d .snapshot)) (standing-means h d)
@@ -205,5 +224,6 @@ allows-is h d one path a (stands s f) = at (standing h d (d .timestamp) (d .snap
 
 pub found-exactly : FoundExactly
 found-exactly = record {
-    allowed = allowed;
-    unique = λ w r d h path a b i j. let one = bounded w r d h .one-each in sym (allows-is (w .digest) d one path a i) ∙ allows-is (w .digest) d one path b j }
+  allowed = allowed;
+  unique = λ w r d h path a b i j. let one = bounded w r d h .one-each in sym (allows-is (w .digest) d one path a i) ∙ allows-is (w .digest) d one path b j;
+}

@@ -82,8 +82,9 @@ snapshot-trans a b c h k x e =
 
 later-trans : (a b c : Device) → Later a b → Later b c → Later a c
 later-trans a b c h k = record {
-    timestamp = timestamp-trans (a .timestamp) (b .timestamp) (c .timestamp) (h .timestamp) (k .timestamp);
-    snapshot = snapshot-trans (a .snapshot) (b .snapshot) (c .snapshot) (h .snapshot) (k .snapshot) }
+  timestamp = timestamp-trans (a .timestamp) (b .timestamp) (c .timestamp) (h .timestamp) (k .timestamp);
+  snapshot = snapshot-trans (a .snapshot) (b .snapshot) (c .snapshot) (h .snapshot) (k .snapshot);
+}
 
 newer-on : (t : Timestamp) (old : Option Timestamp) → T (newer t old) → TimestampOn old (Some t)
 newer-on t None h u e = absurd (none-not u e)
@@ -100,12 +101,13 @@ cover new (x ∷ xs) t r n e = at (eqb r (x .role)) (λ h. h) e (cover new xs (a
     least : (k : ℕ) (o : Option ℕ) → T (atLeast k o) → (m : ℕ) × (o ≡ Some m) × (k ≤ m)
     least k None h = absurd h
     least k (Some m) h = (m, refl, leb→le k m h)
+
     at : (b : Bool) → (T b → T (eqb r (x .role))) → mapped (λ (m : Meta). m .version) (cond b (Some x) (first (λ (m : Meta). eqb r (m .role)) xs)) ≡ Some n →
-      (versionIn r xs ≡ Some n → (m : ℕ) × (versionIn r new ≡ Some m) × (n ≤ m)) → (m : ℕ) × (versionIn r new ≡ Some m) × (n ≤ m)
+        (versionIn r xs ≡ Some n → (m : ℕ) × (versionIn r new ≡ Some m) × (n ≤ m)) → (m : ℕ) × (versionIn r new ≡ Some m) × (n ≤ m)
     at true h u go =
-      let l = least (x .version) (versionIn (x .role) new) (and-l (atLeast (x .version) (versionIn (x .role) new)) (covers new xs) t) in
-      let same : x .version ≡ n = some-same (x .version) n u in
-      (l .0, ap (λ (k : ℕ). versionIn k new) (eqb→eq r (x .role) (h tt)) ∙ l .1, omega (arith, l .2, same))
+        let l = least (x .version) (versionIn (x .role) new) (and-l (atLeast (x .version) (versionIn (x .role) new)) (covers new xs) t) in
+        let same : x .version ≡ n = some-same (x .version) n u in
+        (l .0, ap (λ (k : ℕ). versionIn k new) (eqb→eq r (x .role) (h tt)) ∙ l .1, omega (arith, l .2, same))
     at false h u go = go u
 
 covers-on : (x : Snapshot) (old : Option Snapshot) → T (coversOld x old) → SnapshotOn old (Some x)
@@ -114,14 +116,15 @@ covers-on x (Some old) h y e =
     let c = each _ h in
     let same : old ≡ y = some-same old y e in
     subst (λ (z : Snapshot). (v : Snapshot) × (Some x ≡ Some v) × (z .version ≤ v .version) × ((r n : ℕ) → versionIn r (z .metas) ≡ Some n → (m : ℕ) × (versionIn r (v .metas) ≡ Some m) × (n ≤ m)))
-      same (x, refl, leb→le (old .version) (x .version) (c .1 .0), cover (x .metas) (old .metas) (c .0))
+    same (x, refl, leb→le (old .version) (x .version) (c .1 .0), cover (x .metas) (old .metas) (c .0))
 
 -- WHERE A ROOT CHANGES THE QUORUMS
 
 pub stays-means : (r s : Root) → Decides (stays r s) (SameQuorums r s)
 stays-means r s = (
-    (λ t. let h = each _ t in (quorums .equal (s .timestamp) (r .timestamp) (h .0), quorums .equal (s .snapshot) (r .snapshot) (h .1 .0))),
-    (λ h. all-of _ (tells sameQuorum quorums (s .timestamp) (r .timestamp) .1 (h .0), (tells sameQuorum quorums (s .snapshot) (r .snapshot) .1 (h .1), tt))))
+  (λ t. let h = each _ t in (quorums .equal (s .timestamp) (r .timestamp) (h .0), quorums .equal (s .snapshot) (r .snapshot) (h .1 .0))),
+  (λ h. all-of _ (tells sameQuorum quorums (s .timestamp) (r .timestamp) .1 (h .0), (tells sameQuorum quorums (s .snapshot) (r .snapshot) .1 (h .1), tt))),
+)
 
 pub keep-same : {A : Type 0} (b : Bool) (m : Option A) → T b → keepIf b m ≡ m
 keep-same true m t = refl
@@ -146,31 +149,32 @@ onward-offer h (ARoot r) s d =
     let b = stays (d .root) r in
     let m = stays-means (d .root) r in
     settled (λ (e : Device). Onwards d e) (firstFault (rootChecks d r o)) (takeRoot r o d) d (still d) (λ e.
-      let c = all-pass (rootChecks d r o) e in
-      record {
-        grows = record { root = omega (arith, eqb→eq (r .version) (d .root .version + 1) (c .1 .1 .0)); today = omega arith; journal = (entry (d .today) (r .root) o ∷ (entry (d .today) (d .root .root) o ∷ []), refl) };
-        same = λ q. later-same d (takeRoot r o d) (keep-same b (d .timestamp) (m .1 q)) (keep-same b (d .snapshot) (m .1 q));
-        changed = λ n. (keep-not b (d .timestamp) (λ t. n (m .0 t)), keep-not b (d .snapshot) (λ t. n (m .0 t))) })
+    let c = all-pass (rootChecks d r o) e in
+    record {
+      grows = record { root = omega (arith, eqb→eq (r .version) (d .root .version + 1) (c .1 .1 .0)); today = omega arith; journal = (entry (d .today) (r .root) o ∷ (entry (d .today) (d .root .root) o ∷ []), refl) };
+      same = λ q. later-same d (takeRoot r o d) (keep-same b (d .timestamp) (m .1 q)) (keep-same b (d .snapshot) (m .1 q));
+      changed = λ n. (keep-not b (d .timestamp) (λ t. n (m .0 t)), keep-not b (d .snapshot) (λ t. n (m .0 t)));
+    })
 onward-offer h (ATimestamp t) s d =
     let o : Offer = record { paper = ATimestamp t; signers = s } in
     settled (λ (e : Device). Onwards d e) (firstFault (timestampChecks d t o)) (takeTimestamp t o d) d (still d) (λ e.
-      let c = all-pass (timestampChecks d t o) e in
-      rooted d (takeTimestamp t o d) refl
-        (record { root = omega arith; today = omega arith; journal = more-noted (d .today) (d .root .timestamp) o (d .journal) })
-        (record { timestamp = newer-on t (d .timestamp) (c .1 .0); snapshot = snapshot-same (d .snapshot) (d .snapshot) refl }))
+    let c = all-pass (timestampChecks d t o) e in
+    rooted d (takeTimestamp t o d) refl
+    (record { root = omega arith; today = omega arith; journal = more-noted (d .today) (d .root .timestamp) o (d .journal) })
+    (record { timestamp = newer-on t (d .timestamp) (c .1 .0); snapshot = snapshot-same (d .snapshot) (d .snapshot) refl }))
 onward-offer h (ASnapshot x) s d =
     let o : Offer = record { paper = ASnapshot x; signers = s } in
     settled (λ (e : Device). Onwards d e) (firstFault (snapshotChecks h d x o)) (takeSnapshot x o d) d (still d) (λ e.
-      let c = all-pass (snapshotChecks h d x o) e in
-      rooted d (takeSnapshot x o d) refl
-        (record { root = omega arith; today = omega arith; journal = more-noted (d .today) (d .root .snapshot) o (d .journal) })
-        (record { timestamp = timestamp-same (d .timestamp) (d .timestamp) refl; snapshot = covers-on x (d .snapshot) (c .1 .1 .0) }))
+    let c = all-pass (snapshotChecks h d x o) e in
+    rooted d (takeSnapshot x o d) refl
+    (record { root = omega arith; today = omega arith; journal = more-noted (d .today) (d .root .snapshot) o (d .journal) })
+    (record { timestamp = timestamp-same (d .timestamp) (d .timestamp) refl; snapshot = covers-on x (d .snapshot) (c .1 .1 .0) }))
 onward-offer h (ATargets t) s d =
     let o : Offer = record { paper = ATargets t; signers = s } in
     settled (λ (e : Device). Onwards d e) (firstFault (targetsChecks d t o)) (takeTargets t o d) d (still d) (λ e.
-      rooted d (takeTargets t o d) refl
-        (record { root = omega arith; today = omega arith; journal = more-notedIf (d .today) (quorumFor d (t .role)) o (d .journal) })
-        (later-same d (takeTargets t o d) refl refl))
+    rooted d (takeTargets t o d) refl
+    (record { root = omega arith; today = omega arith; journal = more-notedIf (d .today) (quorumFor d (t .role)) o (d .journal) })
+    (later-same d (takeTargets t o d) refl refl))
 
 pub next-day : (today day : ℕ) → dayFault today day ≡ None → day ≡ today + 1
 next-day today day e = at (eqb day (today + 1)) (λ t. t) e

@@ -45,10 +45,11 @@ pub record Inv (w : World) (r : Root) (d : Device) : Type 0 where
 -- the keys counted vouch for a paper that the signers signed
 pub vouching : (w : World) (q : Quorum) (p : Metadata) (signers : List Key) → T (enough q signers) → AllSigned w p signers → Vouches w q p (counted q signers)
 vouching w q p signers t a = let c = counts q signers in record {
-    many = leb→le (q .threshold) (length (counted q signers)) t;
-    differ = c .differ;
-    ours = λ k m. c .ours k m .0;
-    signed = λ k m. a k (c .ours k m .1) }
+  many = leb→le (q .threshold) (length (counted q signers)) t;
+  differ = c .differ;
+  ours = λ k m. c .ours k m .0;
+  signed = λ k m. a k (c .ours k m .1);
+}
 
 pub vouch : (w : World) (q : Quorum) (p : Metadata) (signers : List Key) → T (enough q signers) → AllSigned w p signers → Vouched w q p
 vouch w q p signers t a = (counted q signers, vouching w q p signers t a)
@@ -83,40 +84,44 @@ by-root w first r s d a v c =
     record {
       chain = next r (v .chain) (eqb→eq (r .version) (d .root .version + 1) (c .1 .1 .0)) (vouch w (d .root .root) (ARoot r) s (c .0) a) (vouch w (r .root) (ARoot r) s (c .1 .0) a);
       journal = cons-all (Good w) (entry (d .today) (r .root) o) (entry (d .today) (d .root .root) o ∷ d .journal) (good w (d .today) (r .root) o (c .1 .0) a)
-        (cons-all (Good w) (entry (d .today) (d .root .root) o) (d .journal) (good w (d .today) (d .root .root) o (c .0) a) (v .journal));
+          (cons-all (Good w) (entry (d .today) (d .root .root) o) (d .journal) (good w (d .today) (d .root .root) o (c .0) a) (v .journal));
       timestamp = λ t e. kept-before (λ q y. Vouched w q (ATimestamp y)) (stays (d .root) r) (d .root .timestamp) (r .timestamp) (d .timestamp) t
-        (λ b. quorums .equal (r .timestamp) (d .root .timestamp) (each _ b .0)) e (v .timestamp t);
+          (λ b. quorums .equal (r .timestamp) (d .root .timestamp) (each _ b .0)) e (v .timestamp t);
       snapshot = λ x e. kept-before (λ q y. Vouched w q (ASnapshot y)) (stays (d .root) r) (d .root .snapshot) (r .snapshot) (d .snapshot) x
-        (λ b. quorums .equal (r .snapshot) (d .root .snapshot) (each _ b .1 .0)) e (v .snapshot x);
-      targets = v .targets }
+          (λ b. quorums .equal (r .snapshot) (d .root .snapshot) (each _ b .1 .0)) e (v .snapshot x);
+      targets = v .targets;
+    }
 
 by-timestamp : (w : World) (first : Root) (t : Timestamp) (s : List Key) (d : Device) → AllSigned w (ATimestamp t) s → Inv w first d → AllPass (timestampChecks d t (record { paper = ATimestamp t; signers = s })) →
     Inv w first (takeTimestamp t (record { paper = ATimestamp t; signers = s }) d)
 by-timestamp w first t s d a v c = record {
-    chain = v .chain;
-    journal = good-noted w (d .today) (d .root .timestamp) (record { paper = ATimestamp t; signers = s }) (d .journal) (c .0) a (v .journal);
-    timestamp = λ y e. subst (λ (z : Timestamp). Vouched w (d .root .timestamp) (ATimestamp z)) (some-same t y e) (vouch w (d .root .timestamp) (ATimestamp t) s (c .0) a);
-    snapshot = v .snapshot;
-    targets = v .targets }
+  chain = v .chain;
+  journal = good-noted w (d .today) (d .root .timestamp) (record { paper = ATimestamp t; signers = s }) (d .journal) (c .0) a (v .journal);
+  timestamp = λ y e. subst (λ (z : Timestamp). Vouched w (d .root .timestamp) (ATimestamp z)) (some-same t y e) (vouch w (d .root .timestamp) (ATimestamp t) s (c .0) a);
+  snapshot = v .snapshot;
+  targets = v .targets;
+}
 
 by-snapshot : (w : World) (first : Root) (x : Snapshot) (s : List Key) (d : Device) → AllSigned w (ASnapshot x) s → Inv w first d → AllPass (snapshotChecks (w .digest) d x (record { paper = ASnapshot x; signers = s })) →
     Inv w first (takeSnapshot x (record { paper = ASnapshot x; signers = s }) d)
 by-snapshot w first x s d a v c = record {
-    chain = v .chain;
-    journal = good-noted w (d .today) (d .root .snapshot) (record { paper = ASnapshot x; signers = s }) (d .journal) (c .0) a (v .journal);
-    timestamp = v .timestamp;
-    snapshot = λ y e. subst (λ (z : Snapshot). Vouched w (d .root .snapshot) (ASnapshot z)) (some-same x y e) (vouch w (d .root .snapshot) (ASnapshot x) s (c .0) a);
-    targets = λ k m. v .targets k (kept-in (lists x) (d .targets) k m .0) }
+  chain = v .chain;
+  journal = good-noted w (d .today) (d .root .snapshot) (record { paper = ASnapshot x; signers = s }) (d .journal) (c .0) a (v .journal);
+  timestamp = v .timestamp;
+  snapshot = λ y e. subst (λ (z : Snapshot). Vouched w (d .root .snapshot) (ASnapshot z)) (some-same x y e) (vouch w (d .root .snapshot) (ASnapshot x) s (c .0) a);
+  targets = λ k m. v .targets k (kept-in (lists x) (d .targets) k m .0);
+}
 
 by-targets : (w : World) (first : Root) (t : Targets) (s : List Key) (d : Device) → AllSigned w (ATargets t) s → Inv w first d → AllPass (targetsChecks d t (record { paper = ATargets t; signers = s })) →
     Inv w first (takeTargets t (record { paper = ATargets t; signers = s }) d)
 by-targets w first t s d a v c = record {
-    chain = v .chain;
-    journal = good-notedIf w (d .today) (quorumFor d (t .role)) (record { paper = ATargets t; signers = s }) (d .journal) (c .0) a (v .journal);
-    timestamp = v .timestamp;
-    snapshot = v .snapshot;
-    targets = cons-all (λ (k : Signed Targets). AllSigned w (ATargets (k .paper)) (k .signers)) (record { paper = t; signers = s }) (kept-by (otherThan (t .role)) (d .targets)) a
-      (λ k m. v .targets k (kept-in (otherThan (t .role)) (d .targets) k m .0)) }
+  chain = v .chain;
+  journal = good-notedIf w (d .today) (quorumFor d (t .role)) (record { paper = ATargets t; signers = s }) (d .journal) (c .0) a (v .journal);
+  timestamp = v .timestamp;
+  snapshot = v .snapshot;
+  targets = cons-all (λ (k : Signed Targets). AllSigned w (ATargets (k .paper)) (k .signers)) (record { paper = t; signers = s }) (kept-by (otherThan (t .role)) (d .targets)) a
+      (λ k m. v .targets k (kept-in (otherThan (t .role)) (d .targets) k m .0));
+}
 
 by-offer : (w : World) (first : Root) (p : Metadata) (s : List Key) (d : Device) → AllSigned w p s → Inv w first d → Inv w first (offered (w .digest) (record { paper = p; signers = s }) d .device)
 by-offer w first (ARoot r) s d a v =
@@ -143,7 +148,12 @@ by-step w first (Installs path size digest) d a v = v
 
 at-first : (w : World) (first : Root) → Inv w first (fresh first)
 at-first w first = record {
-    chain = here; journal = λ e m. elim m [ ]; timestamp = λ t e. absurd (none-not t e); snapshot = λ x e. absurd (none-not x e); targets = λ k m. elim m [ ] }
+  chain = here;
+  journal = λ e m. elim m [ ];
+  timestamp = λ t e. absurd (none-not t e);
+  snapshot = λ x e. absurd (none-not x e);
+  targets = λ k m. elim m [ ];
+}
 
 pub by-reached : (w : World) (first : Root) {d : Device} → Reached w first d → Inv w first d
 by-reached w first (made e) = subst (λ (y : Device). Inv w first y) (sym e) (at-first w first)

@@ -72,14 +72,16 @@ lowest (c ∷ cs) (r ∷ rs) f t m e = at (c .holds) refl e (lowest cs rs f (and
     passed : T (c .holds) → (Fails rs f × ((g : Fault) → Fails rs g → numberOf f ≤ numberOf g)) → (g : Fault) → Fails (r ∷ rs) g → numberOf f ≤ numberOf g
     passed h l g (inl n) = absurd (n .1 (m .0 .0 h))
     passed h l g (inr n) = l .1 g n
+
     failed : f ≡ c .fault → (g : Fault) → Fails (r ∷ rs) g → numberOf f ≤ numberOf g
     failed s g (inl n) = omega (arith, ap numberOf (s ∙ (m .1 ∙ n .0)))
     failed s g (inr n) = omega (arith, ap numberOf s, above-fails (numberOf (c .fault)) cs rs (and-l (above (numberOf (c .fault)) cs) (ascending cs) t) (m .2) g n)
+
     at : (b : Bool) → c .holds ≡ b → cond b (firstFault cs) (Some (c .fault)) ≡ Some f → (firstFault cs ≡ Some f → Lowest rs f) → Lowest (r ∷ rs) f
     at true h u go = let l = go u in (inr (l .0), passed (is-true (c .holds) h) l)
     at false h u go =
-      let same : c .fault ≡ f = some-same (c .fault) f u in
-      (inl (sym (m .1) ∙ same, λ p. is-false (c .holds) h (m .0 .1 p)), failed (sym same))
+        let same : c .fault ≡ f = some-same (c .fault) f u in
+        (inl (sym (m .1) ∙ same, λ p. is-false (c .holds) h (m .0 .1 p)), failed (sym same))
 
 ordered : (h : Snapshot → Digest) (d : Device) (p : Metadata) (o : Offer) → T (ascending (checksOf h d p o))
 ordered h d (ARoot r) o = tt
@@ -89,31 +91,69 @@ ordered h d (ATargets t) o = tt
 
 matches : (h : Snapshot → Digest) (d : Device) (p : Metadata) (s : List Key) → Matches (checksOf h d p (record { paper = p; signers = s })) (ruleFor h d p s)
 matches h d (ARoot r) s =
-    let o : Offer = record { paper = ARoot r; signers = s } in
-    (enough-means (d .root .root) s, refl,
-    (enough-means (r .root) s, refl,
-    (decides-eq (r .version) (d .root .version + 1), refl,
-    (room-root-means (d .today) (d .root .root) (r .root) o (d .journal), refl, tt))))
+    let o : Offer = record { paper = ARoot r; signers = s } in (
+      enough-means (d .root .root) s,
+      refl,
+      (
+        enough-means (r .root) s,
+        refl,
+        (
+          decides-eq (r .version) (d .root .version + 1),
+          refl,
+          (room-root-means (d .today) (d .root .root) (r .root) o (d .journal), refl, tt),
+        ),
+      ),
+    )
 matches h d (ATimestamp t) s =
-    let o : Offer = record { paper = ATimestamp t; signers = s } in
-    (enough-means (d .root .timestamp) s, refl,
-    (newer-means t (d .timestamp), refl,
-    (decides-le (d .today) (t .expires), refl,
-    (room-means (d .today) (d .root .timestamp) o (d .journal), refl, tt))))
+    let o : Offer = record { paper = ATimestamp t; signers = s } in (
+      enough-means (d .root .timestamp) s,
+      refl,
+      (
+        newer-means t (d .timestamp),
+        refl,
+        (
+          decides-le (d .today) (t .expires),
+          refl,
+          (room-means (d .today) (d .root .timestamp) o (d .journal), refl, tt),
+        ),
+      ),
+    )
 matches h d (ASnapshot x) s =
-    let o : Offer = record { paper = ASnapshot x; signers = s } in
-    (enough-means (d .root .snapshot) s, refl,
-    (named-means h x (d .timestamp), refl,
-    (covers-old-means x (d .snapshot), refl,
-    (decides-le (d .today) (x .expires), refl,
-    (room-means (d .today) (d .root .snapshot) o (d .journal), refl, tt)))))
+    let o : Offer = record { paper = ASnapshot x; signers = s } in (
+      enough-means (d .root .snapshot) s,
+      refl,
+      (
+        named-means h x (d .timestamp),
+        refl,
+        (
+          covers-old-means x (d .snapshot),
+          refl,
+          (
+            decides-le (d .today) (x .expires),
+            refl,
+            (room-means (d .today) (d .root .snapshot) o (d .journal), refl, tt),
+          ),
+        ),
+      ),
+    )
 matches h d (ATargets t) s =
-    let o : Offer = record { paper = ATargets t; signers = s } in
-    (when-asked-means (λ (q : Quorum). Meets q s) (λ q. enough q s) (λ q. enough-means q s) d (t .role), refl,
-    (current-means (d .snapshot) t, refl,
-    (asked-some d (t .role), refl,
-    (decides-le (d .today) (t .expires), refl,
-    (when-asked-means (λ (q : Quorum). Room q (ATargets t) (d .journal)) (λ q. room (d .today) q o (d .journal)) (λ q. room-means (d .today) q o (d .journal)) d (t .role), refl, tt)))))
+    let o : Offer = record { paper = ATargets t; signers = s } in (
+      when-asked-means (λ (q : Quorum). Meets q s) (λ q. enough q s) (λ q. enough-means q s) d (t .role),
+      refl,
+      (
+        current-means (d .snapshot) t,
+        refl,
+        (
+          asked-some d (t .role),
+          refl,
+          (
+            decides-le (d .today) (t .expires),
+            refl,
+            (when-asked-means (λ (q : Quorum). Room q (ATargets t) (d .journal)) (λ q. room (d .today) q o (d .journal)) (λ q. room-means (d .today) q o (d .journal)) d (t .role), refl, tt),
+          ),
+        ),
+      ),
+    )
 
 -- WHAT THE NEW DEVICE IS
 
@@ -127,30 +167,34 @@ becomes d (ARoot r) s =
       changed = λ n. (keep-not b (d .timestamp) (λ t. n (m .0 t)), keep-not b (d .snapshot) (λ t. n (m .0 t)));
       targets = refl;
       journal = refl;
-      today = refl }
+      today = refl;
+    }
 becomes d (ATimestamp t) s = record {
-    root = refl;
-    timestamp = refl;
-    snapshot = refl;
-    targets = refl;
-    journal = noted-means (d .today) (d .root .timestamp) (record { paper = ATimestamp t; signers = s }) (d .journal);
-    today = refl }
+  root = refl;
+  timestamp = refl;
+  snapshot = refl;
+  targets = refl;
+  journal = noted-means (d .today) (d .root .timestamp) (record { paper = ATimestamp t; signers = s }) (d .journal);
+  today = refl;
+}
 becomes d (ASnapshot x) s = record {
-    root = refl;
-    timestamp = refl;
-    snapshot = refl;
-    targets = sifted (λ (k : Signed Targets). (n : ℕ) × GivesVersion x (k .paper .role) n) (lists x) (listed-means x) (d .targets);
-    journal = noted-means (d .today) (d .root .snapshot) (record { paper = ASnapshot x; signers = s }) (d .journal);
-    today = refl }
+  root = refl;
+  timestamp = refl;
+  snapshot = refl;
+  targets = sifted (λ (k : Signed Targets). (n : ℕ) × GivesVersion x (k .paper .role) n) (lists x) (listed-means x) (d .targets);
+  journal = noted-means (d .today) (d .root .snapshot) (record { paper = ASnapshot x; signers = s }) (d .journal);
+  today = refl;
+}
 becomes d (ATargets t) s = record {
-    root = refl;
-    timestamp = refl;
-    snapshot = refl;
-    others = kept-by (otherThan (t .role)) (d .targets);
-    sifted = sifted (λ (k : Signed Targets). ¬ (k .paper .role ≡ t .role)) (otherThan (t .role)) (other-means (t .role)) (d .targets);
-    targets = refl;
-    journal = λ q a. subst (λ (m : Option Quorum). Noted (d .today) q o (d .journal) (notedIf (d .today) m o (d .journal))) (sym (is-asked d (t .role) q a)) (noted-means (d .today) q o (d .journal));
-    today = refl }
+  root = refl;
+  timestamp = refl;
+  snapshot = refl;
+  others = kept-by (otherThan (t .role)) (d .targets);
+  sifted = sifted (λ (k : Signed Targets). ¬ (k .paper .role ≡ t .role)) (otherThan (t .role)) (other-means (t .role)) (d .targets);
+  targets = refl;
+  journal = λ q a. subst (λ (m : Option Quorum). Noted (d .today) q o (d .journal) (notedIf (d .today) m o (d .journal))) (sym (is-asked d (t .role) q a)) (noted-means (d .today) q o (d .journal));
+  today = refl;
+}
   where
     o : Offer
     o = record { paper = ATargets t; signers = s }
@@ -167,7 +211,8 @@ judged-offer h p s d =
       becomes = λ e. subst (λ (y : Device). Becomes d p o y) (sym (taken (firstFault cs) new d e .1)) (becomes d p s);
       refused = λ f e. lowest cs (ruleFor h d p s) f (ordered h d p o) m (refused (firstFault cs) new d f e .0);
       unchanged = λ f e. refused (firstFault cs) new d f e .1;
-      decided = decided (firstFault cs) new d }
+      decided = decided (firstFault cs) new d;
+    }
 
 judged-day : (h : Snapshot → Digest) (day : ℕ) (d : Device) → JudgedDay h day d
 judged-day h day d = record { next = λ e. next (eqb day (d .today + 1)) (decides-eq day (d .today + 1) .1 e); other = λ n. other (eqb day (d .today + 1)) (λ t. n (decides-eq day (d .today + 1) .0 t)) }
@@ -175,6 +220,7 @@ judged-day h day d = record { next = λ e. next (eqb day (d .today + 1)) (decide
     next : (b : Bool) → T b → (settle (cond b None (Some OutOfRange)) (onDay day d) d .answer ≡ Taken) × DayBegun d day (settle (cond b None (Some OutOfRange)) (onDay day d) d .device)
     next true t = (refl, record { root = refl; timestamp = refl; snapshot = refl; targets = refl; journal = refl; today = refl })
     next false t = absurd t
+
     other : (b : Bool) → ¬ (T b) → (settle (cond b None (Some OutOfRange)) (onDay day d) d .answer ≡ Refused OutOfRange) × (settle (cond b None (Some OutOfRange)) (onDay day d) d .device ≡ d)
     other true t = absurd (t tt)
     other false t = (refl, refl)

@@ -26,12 +26,17 @@ module _ {A : Type 0} (P : A → Type 0) (test : A → Bool) (dec : (x : A) → 
     where
       at : (b : Bool) → test y ≡ b → cond b (Some y) (first test ys) ≡ Some x → (first test ys ≡ Some x → First P ys x) → First P (y ∷ ys) x
       at true h u go =
-        let same : y ≡ x = some-same y x u in
-        record { before = []; behind = ys; split = ap (λ z. z ∷ ys) same; is = subst P same (dec y .0 (is-true (test y) h)); none = λ z m. elim m [ ] }
+          let same : y ≡ x = some-same y x u in
+          record { before = []; behind = ys; split = ap (λ z. z ∷ ys) same; is = subst P same (dec y .0 (is-true (test y) h)); none = λ z m. elim m [ ] }
       at false h u go =
-        let f = go u in
-        record { before = y ∷ f .before; behind = f .behind; split = ap (λ zs. y ∷ zs) (f .split); is = f .is;
-          none = cons-all (λ z. ¬ (P z)) y (f .before) (λ p. is-false (test y) h (dec y .1 p)) (f .none) }
+          let f = go u in
+          record {
+            before = y ∷ f .before;
+            behind = f .behind;
+            split = ap (λ zs. y ∷ zs) (f .split);
+            is = f .is;
+            none = cons-all (λ z. ¬ (P z)) y (f .before) (λ p. is-false (test y) h (dec y .1 p)) (f .none);
+          }
 
   pub first-none : (xs : List A) → first test xs ≡ None → (x : A) → List·Memᴰ x xs → ¬ (P x)
   first-none [] e = λ x m. elim m [ ]
@@ -111,6 +116,7 @@ kept-in {A} test (y ∷ ys) x m = at (test y) refl m (kept-in test ys x)
     here : T (test y) → List·Memᴰ x (y ∷ kept-by test ys) → (List·Memᴰ x (kept-by test ys) → List·Memᴰ x ys × T (test x)) → List·Memᴰ x (y ∷ ys) × T (test x)
     here t (List·Memᴰ·head e) go = (List·Memᴰ·head e, subst (λ (z : A). T (test z)) (sym e) t)
     here t (List·Memᴰ·tail n) go = (List·Memᴰ·tail (go n .0), go n .1)
+
     at : (b : Bool) → test y ≡ b → List·Memᴰ x (cond b (y ∷ kept-by test ys) (kept-by test ys)) → (List·Memᴰ x (kept-by test ys) → List·Memᴰ x ys × T (test x)) → List·Memᴰ x (y ∷ ys) × T (test x)
     at true h n go = here (is-true (test y) h) n go
     at false h n go = (List·Memᴰ·tail (go n .0), go n .1)

@@ -27,6 +27,7 @@ flags = record { equal = equal; itself = itself }
     equal true false t = absurd t
     equal false true t = absurd t
     equal false false t = refl
+
     itself : (a : Bool) → T (Bool·beq a a)
     itself true = tt
     itself false = tt
@@ -50,53 +51,78 @@ bytes = lists eqb numbers
 
 pub quorums : Tells sameQuorum
 quorums = record {
-    equal = λ a b t. let h = each _ t in λ i. record { keys = lists sameList bytes .equal (a .keys) (b .keys) (h .1 .0) i; threshold = eqb→eq (a .threshold) (b .threshold) (h .0) i };
-    itself = λ a. all-of _ (eqb-refl (a .threshold), (lists sameList bytes .itself (a .keys), tt)) }
+  equal = λ a b t. let h = each _ t in λ i. record { keys = lists sameList bytes .equal (a .keys) (b .keys) (h .1 .0) i; threshold = eqb→eq (a .threshold) (b .threshold) (h .0) i };
+  itself = λ a. all-of _ (eqb-refl (a .threshold), (lists sameList bytes .itself (a .keys), tt));
+}
 
 roots : Tells sameRoot
 roots = record {
-    equal = λ a b t. let h = each _ t in λ i. record {
-      version = eqb→eq (a .version) (b .version) (h .0) i; expires = eqb→eq (a .expires) (b .expires) (h .1 .0) i; root = quorums .equal (a .root) (b .root) (h .1 .1 .0) i;
-      timestamp = quorums .equal (a .timestamp) (b .timestamp) (h .1 .1 .1 .0) i; snapshot = quorums .equal (a .snapshot) (b .snapshot) (h .1 .1 .1 .1 .0) i;
-      top = quorums .equal (a .top) (b .top) (h .1 .1 .1 .1 .1 .0) i };
-    itself = λ a. all-of _ (eqb-refl (a .version), (eqb-refl (a .expires), (quorums .itself (a .root), (quorums .itself (a .timestamp), (quorums .itself (a .snapshot), (quorums .itself (a .top), tt)))))) }
+  equal = λ a b t. let h = each _ t in λ i. record {
+    version = eqb→eq (a .version) (b .version) (h .0) i;
+    expires = eqb→eq (a .expires) (b .expires) (h .1 .0) i;
+    root = quorums .equal (a .root) (b .root) (h .1 .1 .0) i;
+    timestamp = quorums .equal (a .timestamp) (b .timestamp) (h .1 .1 .1 .0) i;
+    snapshot = quorums .equal (a .snapshot) (b .snapshot) (h .1 .1 .1 .1 .0) i;
+    top = quorums .equal (a .top) (b .top) (h .1 .1 .1 .1 .1 .0) i;
+  };
+  itself = λ a. all-of _ (eqb-refl (a .version), (eqb-refl (a .expires), (quorums .itself (a .root), (quorums .itself (a .timestamp), (quorums .itself (a .snapshot), (quorums .itself (a .top), tt))))));
+}
 
 timestamps : Tells sameTimestamp
 timestamps = record {
-    equal = λ a b t. let h = each _ t in λ i. record {
-      version = eqb→eq (a .version) (b .version) (h .0) i; expires = eqb→eq (a .expires) (b .expires) (h .1 .0) i;
-      snapshot = eqb→eq (a .snapshot) (b .snapshot) (h .1 .1 .0) i; digest = bytes .equal (a .digest) (b .digest) (h .1 .1 .1 .0) i };
-    itself = λ a. all-of _ (eqb-refl (a .version), (eqb-refl (a .expires), (eqb-refl (a .snapshot), (bytes .itself (a .digest), tt)))) }
+  equal = λ a b t. let h = each _ t in λ i. record {
+    version = eqb→eq (a .version) (b .version) (h .0) i;
+    expires = eqb→eq (a .expires) (b .expires) (h .1 .0) i;
+    snapshot = eqb→eq (a .snapshot) (b .snapshot) (h .1 .1 .0) i;
+    digest = bytes .equal (a .digest) (b .digest) (h .1 .1 .1 .0) i;
+  };
+  itself = λ a. all-of _ (eqb-refl (a .version), (eqb-refl (a .expires), (eqb-refl (a .snapshot), (bytes .itself (a .digest), tt))));
+}
 
 metas : Tells sameMeta
 metas = record {
-    equal = λ a b t. let h = each _ t in λ i. record { role = eqb→eq (a .role) (b .role) (h .0) i; version = eqb→eq (a .version) (b .version) (h .1 .0) i };
-    itself = λ a. all-of _ (eqb-refl (a .role), (eqb-refl (a .version), tt)) }
+  equal = λ a b t. let h = each _ t in λ i. record { role = eqb→eq (a .role) (b .role) (h .0) i; version = eqb→eq (a .version) (b .version) (h .1 .0) i };
+  itself = λ a. all-of _ (eqb-refl (a .role), (eqb-refl (a .version), tt));
+}
 
 snapshots : Tells sameSnapshot
 snapshots = record {
-    equal = λ a b t. let h = each _ t in λ i. record {
-      version = eqb→eq (a .version) (b .version) (h .0) i; expires = eqb→eq (a .expires) (b .expires) (h .1 .0) i; metas = lists sameMeta metas .equal (a .metas) (b .metas) (h .1 .1 .0) i };
-    itself = λ a. all-of _ (eqb-refl (a .version), (eqb-refl (a .expires), (lists sameMeta metas .itself (a .metas), tt))) }
+  equal = λ a b t. let h = each _ t in λ i. record {
+    version = eqb→eq (a .version) (b .version) (h .0) i;
+    expires = eqb→eq (a .expires) (b .expires) (h .1 .0) i;
+    metas = lists sameMeta metas .equal (a .metas) (b .metas) (h .1 .1 .0) i;
+  };
+  itself = λ a. all-of _ (eqb-refl (a .version), (eqb-refl (a .expires), (lists sameMeta metas .itself (a .metas), tt)));
+}
 
 files : Tells sameFile
 files = record {
-    equal = λ a b t. let h = each _ t in λ i. record { path = bytes .equal (a .path) (b .path) (h .0) i; size = eqb→eq (a .size) (b .size) (h .1 .0) i; digest = bytes .equal (a .digest) (b .digest) (h .1 .1 .0) i };
-    itself = λ a. all-of _ (bytes .itself (a .path), (eqb-refl (a .size), (bytes .itself (a .digest), tt))) }
+  equal = λ a b t. let h = each _ t in λ i. record { path = bytes .equal (a .path) (b .path) (h .0) i; size = eqb→eq (a .size) (b .size) (h .1 .0) i; digest = bytes .equal (a .digest) (b .digest) (h .1 .1 .0) i };
+  itself = λ a. all-of _ (bytes .itself (a .path), (eqb-refl (a .size), (bytes .itself (a .digest), tt)));
+}
 
 delegations : Tells sameDelegation
 delegations = record {
-    equal = λ a b t. let h = each _ t in λ i. record {
-      role = eqb→eq (a .role) (b .role) (h .0) i; quorum = quorums .equal (a .quorum) (b .quorum) (h .1 .0) i;
-      prefix = bytes .equal (a .prefix) (b .prefix) (h .1 .1 .0) i; terminating = flags .equal (a .terminating) (b .terminating) (h .1 .1 .1 .0) i };
-    itself = λ a. all-of _ (eqb-refl (a .role), (quorums .itself (a .quorum), (bytes .itself (a .prefix), (flags .itself (a .terminating), tt)))) }
+  equal = λ a b t. let h = each _ t in λ i. record {
+    role = eqb→eq (a .role) (b .role) (h .0) i;
+    quorum = quorums .equal (a .quorum) (b .quorum) (h .1 .0) i;
+    prefix = bytes .equal (a .prefix) (b .prefix) (h .1 .1 .0) i;
+    terminating = flags .equal (a .terminating) (b .terminating) (h .1 .1 .1 .0) i;
+  };
+  itself = λ a. all-of _ (eqb-refl (a .role), (quorums .itself (a .quorum), (bytes .itself (a .prefix), (flags .itself (a .terminating), tt))));
+}
 
 targets : Tells sameTargets
 targets = record {
-    equal = λ a b t. let h = each _ t in λ i. record {
-      role = eqb→eq (a .role) (b .role) (h .0) i; version = eqb→eq (a .version) (b .version) (h .1 .0) i; expires = eqb→eq (a .expires) (b .expires) (h .1 .1 .0) i;
-      files = lists sameFile files .equal (a .files) (b .files) (h .1 .1 .1 .0) i; delegations = lists sameDelegation delegations .equal (a .delegations) (b .delegations) (h .1 .1 .1 .1 .0) i };
-    itself = λ a. all-of _ (eqb-refl (a .role), (eqb-refl (a .version), (eqb-refl (a .expires), (lists sameFile files .itself (a .files), (lists sameDelegation delegations .itself (a .delegations), tt))))) }
+  equal = λ a b t. let h = each _ t in λ i. record {
+    role = eqb→eq (a .role) (b .role) (h .0) i;
+    version = eqb→eq (a .version) (b .version) (h .1 .0) i;
+    expires = eqb→eq (a .expires) (b .expires) (h .1 .1 .0) i;
+    files = lists sameFile files .equal (a .files) (b .files) (h .1 .1 .1 .0) i;
+    delegations = lists sameDelegation delegations .equal (a .delegations) (b .delegations) (h .1 .1 .1 .1 .0) i;
+  };
+  itself = λ a. all-of _ (eqb-refl (a .role), (eqb-refl (a .version), (eqb-refl (a .expires), (lists sameFile files .itself (a .files), (lists sameDelegation delegations .itself (a .delegations), tt)))));
+}
 
 papers-equal : (p q : Metadata) → T (samePaper p q) → p ≡ q
 papers-equal (ARoot a) (ARoot b) t = ap ARoot (roots .equal a b t)

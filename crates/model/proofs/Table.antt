@@ -5,17 +5,40 @@ use Rattle.model.specs.Cases.{Row, Right, Cases}
 
 pub cases : Cases
 unfolding all
-cases =
-    (record { one = refl; other = refl; signed-both = refl },
-    (record { one = refl; other = refl; signed-both = refl },
-    (record { one = refl; other = refl; signed-both = refl },
-    (record { one = refl; other = refl; signed-both = refl },
-    (record { one = refl; other = refl; signed-both = refl },
-    (record { one = refl; other = refl; signed-both = refl },
-    (record { one = refl; other = refl; signed-both = refl },
-    (record { one = refl; other = refl; signed-both = refl },
-    (record { one = refl; other = refl; signed-both = refl },
-    (record { one = refl; other = refl; signed-both = refl },
-    (record { one = refl; other = refl; signed-both = refl },
-    (record { one = refl; other = refl; signed-both = refl },
-    (record { one = refl; other = refl; signed-both = refl }, tt)))))))))))))
+cases = (
+  record { one = refl; other = refl; signed-both = refl },
+  (
+    record { one = refl; other = refl; signed-both = refl },
+    (
+      record { one = refl; other = refl; signed-both = refl },
+      (
+        record { one = refl; other = refl; signed-both = refl },
+        (
+          record { one = refl; other = refl; signed-both = refl },
+          (
+            record { one = refl; other = refl; signed-both = refl },
+            (
+              record { one = refl; other = refl; signed-both = refl },
+              (
+                record { one = refl; other = refl; signed-both = refl },
+                (
+                  record { one = refl; other = refl; signed-both = refl },
+                  (
+                    record { one = refl; other = refl; signed-both = refl },
+                    (
+                      record { one = refl; other = refl; signed-both = refl },
+                      (
+                        record { one = refl; other = refl; signed-both = refl },
+                        (record { one = refl; other = refl; signed-both = refl }, tt),
+                      ),
+                    ),
+                  ),
+                ),
+              ),
+            ),
+          ),
+        ),
+      ),
+    ),
+  ),
+)

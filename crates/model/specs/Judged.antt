@@ -50,9 +50,9 @@ Delegates r k = (b : Delegation) × List·Memᴰ b (k .paper .delegations) × (b
 pub data Asked (d : Device) (r : ℕ) (q : Quorum) : Type 0 where
   for-top : r ≡ 0 → q ≡ d .root .top → Asked d r q
   delegated : ¬ (r ≡ 0) →
-    (ks : List (Signed Targets)) → Sifted (λ (k : Signed Targets). Current (d .snapshot) (k .paper)) (d .targets) ks →
-    (k : Signed Targets) → First (Delegates r) ks k →
-    (b : Delegation) → First (λ (b : Delegation). b .role ≡ r) (k .paper .delegations) b → q ≡ b .quorum → Asked d r q
+      (ks : List (Signed Targets)) → Sifted (λ (k : Signed Targets). Current (d .snapshot) (k .paper)) (d .targets) ks →
+      (k : Signed Targets) → First (Delegates r) ks k →
+      (b : Delegation) → First (λ (b : Delegation). b .role ≡ r) (k .paper .delegations) b → q ≡ b .quorum → Asked d r q
 
 -- the paper stands in the journal for this quorum
 abbrev pub Stands : Quorum → Metadata → List Entry → Type 0

@@ -51,12 +51,13 @@ keepIf b m = cond b m None
 
 abbrev pub takeRoot : Root → Offer → Device → Device
 takeRoot r o d = record {
-    root = r;
-    timestamp = keepIf (stays (d .root) r) (d .timestamp);
-    snapshot = keepIf (stays (d .root) r) (d .snapshot);
-    targets = d .targets;
-    journal = notedRoot (d .today) (d .root .root) (r .root) o (d .journal);
-    today = d .today }
+  root = r;
+  timestamp = keepIf (stays (d .root) r) (d .timestamp);
+  snapshot = keepIf (stays (d .root) r) (d .snapshot);
+  targets = d .targets;
+  journal = notedRoot (d .today) (d .root .root) (r .root) o (d .journal);
+  today = d .today;
+}
 
 -- TIMESTAMP: a version above the kept one's, a snapshot not below the one that it names, in time
 
@@ -73,12 +74,13 @@ timestampChecks d t o =
 
 abbrev pub takeTimestamp : Timestamp → Offer → Device → Device
 takeTimestamp t o d = record {
-    root = d .root;
-    timestamp = Some t;
-    snapshot = d .snapshot;
-    targets = d .targets;
-    journal = noted (d .today) (d .root .timestamp) o (d .journal);
-    today = d .today }
+  root = d .root;
+  timestamp = Some t;
+  snapshot = d .snapshot;
+  targets = d .targets;
+  journal = noted (d .today) (d .root .timestamp) o (d .journal);
+  today = d .today;
+}
 
 -- SNAPSHOT: named by the kept timestamp; no role of the kept snapshot lacks or goes back; in time
 
@@ -121,12 +123,13 @@ lists x k = isSome (versionIn (k .paper .role) (x .metas))
 
 abbrev pub takeSnapshot : Snapshot → Offer → Device → Device
 takeSnapshot x o d = record {
-    root = d .root;
-    timestamp = d .timestamp;
-    snapshot = Some x;
-    targets = kept-by (lists x) (d .targets);
-    journal = noted (d .today) (d .root .snapshot) o (d .journal);
-    today = d .today }
+  root = d .root;
+  timestamp = d .timestamp;
+  snapshot = Some x;
+  targets = kept-by (lists x) (d .targets);
+  journal = noted (d .today) (d .root .snapshot) o (d .journal);
+  today = d .today;
+}
 
 -- TARGETS: the version that the kept snapshot gives for the role, in time
 
@@ -174,12 +177,13 @@ otherThan r k = not (eqb r (k .paper .role))
 
 abbrev pub takeTargets : Targets → Offer → Device → Device
 takeTargets t o d = record {
-    root = d .root;
-    timestamp = d .timestamp;
-    snapshot = d .snapshot;
-    targets = record { paper = t; signers = o .signers } ∷ kept-by (otherThan (t .role)) (d .targets);
-    journal = notedIf (d .today) (quorumFor d (t .role)) o (d .journal);
-    today = d .today }
+  root = d .root;
+  timestamp = d .timestamp;
+  snapshot = d .snapshot;
+  targets = record { paper = t; signers = o .signers } ∷ kept-by (otherThan (t .role)) (d .targets);
+  journal = notedIf (d .today) (quorumFor d (t .role)) o (d .journal);
+  today = d .today;
+}
 
 -- ANY OFFER
 

@@ -34,7 +34,7 @@ pub data Comes (R : ℕ → Quorum → Found → Type 0) (d : Device) (path : St
   broken : ((k : Signed Targets) → ¬ (Hand d r q k)) → Comes R d path r q (Gap r)
   has : (k : Signed Targets) → Hand d r q k → (f : File) → First (λ (g : File). g .path ≡ path) (k .paper .files) f → Comes R d path r q (Sure f)
   asks : {a : Found} (k : Signed Targets) → Hand d r q k → ((f : File) → List·Memᴰ f (k .paper .files) → ¬ (f .path ≡ path)) →
-    Goes R path (k .paper .delegations) a → Comes R d path r q a
+      Goes R path (k .paper .delegations) a → Comes R d path r q a
 
 -- at most so many targets one below the other; beyond, broken
 abbrev pub Finds : ℕ → Device → Steps → ℕ → Quorum → Found → Type 0

@@ -27,7 +27,7 @@ pub record AtHand (w : World) (d : Device) (x : Snapshot) (r : ℕ) (q : Quorum)
 pub data Backs (w : World) (d : Device) (x : Snapshot) (path : Steps) (f : File) : ℕ → ℕ → Quorum → Type 0 where
   listed : {n r : ℕ} {q : Quorum} (t : Targets) → AtHand w d x r q t → List·Memᴰ f (t .files) → f .path ≡ path → Backs w d x path f (suc n) r q
   through : {n r : ℕ} {q : Quorum} (t : Targets) → AtHand w d x r q t → (b : Delegation) → List·Memᴰ b (t .delegations) → StartsWith (b .prefix) path →
-    Backs w d x path f n (b .role) (b .quorum) → Backs w d x path f (suc n) r q
+      Backs w d x path f n (b .role) (b .quorum) → Backs w d x path f (suc n) r q
 
 -- timestamp and snapshot are in time, the one names the other, and both are vouched for by the present root; so is the way
 pub record Backed (w : World) (d : Device) (path : Steps) (f : File) : Type 0 where
@@ -47,7 +47,7 @@ pub record Whole (w : World) (r : Root) (d : Device) : Type 0 where
   pub found : (path : Steps) (f : File) → look (w .digest) d path ≡ Sure f → Backed w d path f
   pub asked : (path : Steps) (f : File) → step (w .digest) (Asks path) d .answer ≡ Gives f → Backed w d path f
   pub installed : (path : Steps) (size : ℕ) (digest : List ℕ) (f : File) → step (w .digest) (Installs path size digest) d .answer ≡ Gives f →
-    Backed w d path f × (size ≡ f .size) × (digest ≡ f .digest)
+      Backed w d path f × (size ≡ f .size) × (digest ≡ f .digest)
 
 pub record Main : Type 0 where
   -- after any events
