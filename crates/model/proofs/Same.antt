@@ -42,7 +42,7 @@ lists-itself : {A : Type 0} (same : A → A → Bool) → Tells same → (xs : L
 lists-itself same t [] = tt
 lists-itself same t (x ∷ xs) = both-hold _ _ (t .itself x) (lists-itself same t xs)
 
-lists : {A : Type 0} (same : A → A → Bool) → Tells same → Tells (sameBy same)
+pub lists : {A : Type 0} (same : A → A → Bool) → Tells same → Tells (sameBy same)
 lists same t = record { equal = lists-equal same t; itself = lists-itself same t }
 
 -- keys, digests and paths
