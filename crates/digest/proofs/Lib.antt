@@ -1,1 +1,3 @@
 pub mod Windows
+pub mod Parts
+pub mod Roots
