@@ -4,9 +4,9 @@ ghost use Rattle.digest.specs.Constants.{ConstantsRight};
 ghost use Rattle.digest.specs.Sha256.{sha256 as sha256Of};
 
 mod block;
-pub mod running;
+mod running;
 
-use running::Sha256;
+pub use running::Sha256;
 
 // The digest of a message that is at hand as a whole.
 pub fn sha256(message: &[u8]) -> [u8; 32]
