@@ -6,11 +6,11 @@ use native.Mathlib.Nat.{suc-add, zero-add, zero-mul}
 use native.Mathlib.Numerals.{one-add}
 use native.Mathlib.Omega.{arith}
 use borrow.Rule.Slice.PartMut.{putMid}
-use lib.ListN.{length, take, drop, replicate, length-append, length-drop}
+use lib.ListN.{length, take, drop, replicate, length-append, length-drop, length-replicate}
 use Rattle.std.specs.Vectors.{chunked}
 use Rattle.std.proofs.shelf.Lists.{drop-all, drop-drop, take-at, drop-at, take-append-le, drop-append-le, take-replicate, length-take-le}
 use Rattle.std.proofs.shelf.Parts.{take-putMid}
-use Rattle.digest.specs.Sha256.{Hash, absorbed, blocks, bytesOf, compressed, initial, padding}
+use Rattle.digest.specs.Sha256.{Hash, absorbed, blocks, bytesOf, compressed, initial, padding, zeros, PaddedWhole}
 use Rattle.digest.specs.Running.{Holds, hashOf, remainder}
 use Rattle.digest.specs.declared.block.State.{State}
 use Rattle.digest.specs.declared.running.Sha256.{Sha256}
@@ -182,11 +182,15 @@ padding-modulo n =
 
 -- the padding, written into zeros
 pub padding-is : (n k : ℕ) {bytes : List ℕ} → bytes ≡ bytesOf 8 ((n * 8) % 2 ^ 64)
-    → take (9 + (119 - n % 64) % 64) (putMid (1 + (119 - n % 64) % 64) k (0x80 ∷ replicate 71 0) bytes) ≡ padding n
+    → take (9 + zeros n) (putMid (1 + zeros n) k (0x80 ∷ replicate 71 0) bytes) ≡ padding n
 unfolding padding
 padding-is n k {bytes} e =
-    let z = (119 - n % 64) % 64 in
+    let z = zeros n in
     take-putMid (1 + z) k (0x80 ∷ replicate 71 0) bytes (9 + z) (omega (arith, ap length e)) (omega arith)
     ∙ ap (λ (i : ℕ). take i (0x80 ∷ replicate 71 0) ++ bytes) (one-add z)
     ∙ ap (λ (v : List ℕ). 0x80 ∷ (v ++ bytes)) (take-replicate z 71 0 (omega arith))
     ∙ ap (λ (v : List ℕ). 0x80 ∷ (replicate z 0 ++ v)) e
+
+pub padded-whole : PaddedWhole
+unfolding padding
+padded-whole m = simp (length-append, length-replicate) (omega arith)

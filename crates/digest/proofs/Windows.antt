@@ -7,7 +7,7 @@ use native.Mathlib.Omega.{arith}
 use lib.ListN.{length, getD, take, drop, length-append}
 use lib.Seq.{getD-drop}
 use Rattle.std.proofs.shelf.Lists.{getD-append-right}
-use Rattle.digest.specs.Sha256.{Hash, back, scheduled, lengthened, extended, words, round, rounds, sum, compressed, constants}
+use Rattle.digest.specs.Sha256.{Hash, back, scheduled, lengthened, extended, words, round, rounds, added, compressed, constants}
 
 -- sixteen elements of a list, each by its place
 abbrev pub written : List ℕ → List ℕ
@@ -102,7 +102,7 @@ pub compressed-64 : (v : Hash) (block w0 w1 w2 w3 : List ℕ) → length w1 ≡ 
     → extended 16 w0 ≡ w0 ++ w1 → t1 ≡ rounds t0 (row 1) w1
     → extended 16 w1 ≡ w1 ++ w2 → t2 ≡ rounds t1 (row 2) w2
     → extended 16 w2 ≡ w2 ++ w3 → t3 ≡ rounds t2 (row 3) w3
-    → r ≡ sum v t3
+    → r ≡ added v t3
     → r ≡ compressed v block
 unfolding compressed
 compressed-64 v block w0 w1 w2 w3 l1 l2 {t0} {t1} {t2} {t3} {r} e f0 e1 f1 e2 f2 e3 f3 g =
@@ -113,7 +113,7 @@ compressed-64 v block w0 w1 w2 w3 l1 l2 {t0} {t1} {t2} {t3} {r} e f0 e1 f1 e2 f2
     let a1 = rounds-append t0 (row 1) (row 2 ++ row 3) w1 (w2 ++ w3) (sym l1) in
     let a2 = rounds-append t1 (row 2) (row 3) w2 w3 (sym l2) in
     let all : t3 ≡ rounds v constants (extended 48 w0) = cc in
-    g ∙ ap (sum v) (all ∙ ap (λ (w : List ℕ). rounds v constants (extended 48 w)) e)
+    g ∙ ap (added v) (all ∙ ap (λ (w : List ℕ). rounds v constants (extended 48 w)) e)
 
 -- the rows, as the code has them
 abbrev pub rows : List (List ℕ)

@@ -1,5 +1,6 @@
 -- SHA-256 as RFC 6234 defines it, over lists of bytes. A word is a number below 2 ^ 32. Assumes nothing.
 use Prim.Native.Nat.{ℕ, zero, suc, _+_, _-_, _*_, _/_, _%_, _^_}
+use mathlib.Core.Path.{_≡_}
 use mathlib.Core.List.{List, [], _∷_, _++_}
 use lib.ListN.{length, getD, drop, replicate}
 use lib.Bits.{bitAnd, bitOr, bitXor}
@@ -11,9 +12,9 @@ infixl 6 _⊕_
 abbrev pub _⊕_ : ℕ → ℕ → ℕ
 x ⊕ y = (x + y) % 2 ^ 32
 
--- each bit of a word turned
-abbrev not : ℕ → ℕ
-not x = (2 ^ 32 - 1) - x
+-- each bit of a word the other way
+abbrev complement : ℕ → ℕ
+complement x = (2 ^ 32 - 1) - x
 
 -- a word shifted right by n bits
 abbrev shr : ℕ → ℕ → ℕ
@@ -25,7 +26,7 @@ rotr n x = bitOr (shr n x) ((x * 2 ^ (32 - n)) % 2 ^ 32)
 
 -- at each bit, that of y where x has a 1, and that of z elsewhere
 abbrev ch : ℕ → ℕ → ℕ → ℕ
-ch x y z = bitXor (bitAnd x y) (bitAnd (not x) z)
+ch x y z = bitXor (bitAnd x y) (bitAnd (complement x) z)
 
 -- at each bit, that which two of the three words have
 abbrev maj : ℕ → ℕ → ℕ → ℕ
@@ -128,8 +129,8 @@ rounds v (k ∷ ks) [] = v
 rounds v (k ∷ ks) (w ∷ ws) = rounds (round v k w) ks ws
 
 -- the sums of two hash values' words
-unfoldable pub sum : Hash → Hash → Hash
-sum u v =
+unfoldable pub added : Hash → Hash → Hash
+added u v =
     record {
       a = u .a ⊕ v .a;
       b = u .b ⊕ v .b;
@@ -143,7 +144,7 @@ sum u v =
 
 -- the hash value after a block more
 unfoldable pub compressed : Hash → List ℕ → Hash
-compressed v block = sum v (rounds v constants (schedule block))
+compressed v block = added v (rounds v constants (schedule block))
 
 -- the hash value after a list of blocks
 abbrev pub absorbed : Hash → List (List ℕ) → Hash
@@ -159,10 +160,14 @@ abbrev pub bytesOf : ℕ → ℕ → List ℕ
 bytesOf zero n = []
 bytesOf (suc k) n = n / 2 ^ (8 * k) % 256 ∷ bytesOf k n
 
--- what follows a message of n bytes: a bit 1, zeros up to 56 modulo 64, and the length in bits. The standard's messages have fewer than
--- 2 ^ 64 bits; the length of a longer one is taken modulo 2 ^ 64.
+-- how many zeros, after n bytes and one more, make 56 modulo 64
+abbrev pub zeros : ℕ → ℕ
+zeros n = (119 - n % 64) % 64
+
+-- what follows a message of n bytes: a bit 1, zeros, and the length in bits. The standard's messages have fewer than 2 ^ 64 bits; of a
+-- longer one, for which it has no digest, the length is taken modulo 2 ^ 64.
 unfoldable pub padding : ℕ → List ℕ
-padding n = 0x80 ∷ (replicate ((119 - n % 64) % 64) 0 ++ bytesOf 8 ((n * 8) % 2 ^ 64))
+padding n = 0x80 ∷ (replicate (zeros n) 0 ++ bytesOf 8 ((n * 8) % 2 ^ 64))
 
 -- a message with its padding: whole blocks
 abbrev pub padded : List ℕ → List ℕ
@@ -179,3 +184,7 @@ digest v = joined (bytesOf 4) (wordsIn v)
 -- the digest of a message
 unfoldable pub sha256 : List ℕ → List ℕ
 sha256 m = digest (absorbed initial (blocks (padded m)))
+
+-- no byte of a padded message is left out of its blocks
+abbrev pub PaddedWhole : Type 0
+PaddedWhole = (m : List ℕ) → length (padded m) % 64 ≡ 0

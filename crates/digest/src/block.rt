@@ -4,7 +4,7 @@ ghost use lib.ListN.{drop, getD, take};
 ghost use mathlib.Core.List.{_++_};
 ghost use mathlib.Core.Path.{_≡_};
 ghost use Rattle.digest.specs.Running.{hashOf};
-ghost use Rattle.digest.specs.Sha256.{absorbed, compressed, constants, digest as digestOf, extended, round as roundOf, rounds as roundsOf, scheduled, sum, word as wordOf, words};
+ghost use Rattle.digest.specs.Sha256.{absorbed, added, compressed, constants, digest as digestOf, extended, round as roundOf, rounds as roundsOf, scheduled, word as wordOf, words};
 
 // The constants K_0 to K_63, sixteen to a row.
 static K: [[u32; 16]; 4] = [
@@ -136,7 +136,7 @@ impl State {
 
     // The sums of the words.
     fn plus(self, other: State) -> State
-        ensures { λ r. ⌜ hashOf r ≡ sum (hashOf self) (hashOf other) ⌝ }
+        ensures { λ r. ⌜ hashOf r ≡ added (hashOf self) (hashOf other) ⌝ }
     {
         State {
             a: self.a.wrapping_add(other.a),
