@@ -1,11 +1,12 @@
 use borrow.Author.Needs.{needs}
-use lib.ListN.{length}
-use mathlib.Core.Path.{_≡_}
-use Rattle.digest.proofs.Windows.{sixteen}
+use lib.ListN.{length, take}
+use mathlib.Core.Path.{_≡_, refl}
+use Rattle.digest.specs.Running.{hashOf}
+use Rattle.digest.specs.Sha256.{constants}
+use Rattle.digest.proofs.Windows.{written, sixteen, reached}
 use Rattle.digest.proofs.block.first.Needs as need
 
 pub returns : need.returns
 returns c =
     let h : length (c .args .w) ≡ 16 = search needs in
-    let e = sixteen (c .args .w) h in
-    rw e (cc)
+    rw (sixteen (c .args .w) h) (reached (hashOf (c .args .s)) (take 16 constants) (written (c .args .w)) _ (_, c .round-s .ensures, (_, c .round-s-2 .ensures, (_, c .round-s-3 .ensures, (_, c .round-s-4 .ensures, (_, c .round-s-5 .ensures, (_, c .round-s-6 .ensures, (_, c .round-s-7 .ensures, (_, c .round-s-8 .ensures, (_, c .round-s-9 .ensures, (_, c .round-s-10 .ensures, (_, c .round-s-11 .ensures, (_, c .round-s-12 .ensures, (_, c .round-s-13 .ensures, (_, c .round-s-14 .ensures, (_, c .round-s-15 .ensures, (_, c .round .ensures, refl)))))))))))))))))

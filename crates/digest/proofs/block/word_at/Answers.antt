@@ -3,4 +3,4 @@ use Rattle.digest.proofs.block.word_at.Needs as need
 
 pub returns : need.returns
 unfolding word
-returns c = cc
+returns c = c .from-be-bytes .ensures
