@@ -6,9 +6,10 @@ use native.Mathlib.Nat.{suc-add, zero-add, zero-mul}
 use native.Mathlib.Numerals.{one-add}
 use native.Mathlib.Omega.{arith}
 use borrow.Rule.Slice.PartMut.{putMid}
-use lib.ListN.{length, take, drop, replicate, length-append, length-drop, length-replicate}
+use lib.ListN.{length, getD, take, drop, replicate, length-append, length-drop, length-replicate}
 use Rattle.std.specs.Vectors.{chunked}
-use Rattle.std.proofs.shelf.Lists.{drop-all, drop-drop, take-at, drop-at, take-append-le, drop-append-le, take-replicate, length-take-le}
+use Rattle.std.specs.shelf.Lists.{joined}
+use Rattle.std.proofs.shelf.Lists.{drop-all, drop-drop, take-at, drop-at, take-append-le, drop-append-le, take-replicate, length-take-le, take-more, joined-more}
 use Rattle.std.proofs.shelf.Parts.{take-putMid}
 use Rattle.digest.specs.Sha256.{Hash, absorbed, blocks, bytesOf, compressed, initial, padding, zeros, PaddedWhole}
 use Rattle.digest.specs.Running.{Holds, hashOf, remainder}
@@ -194,3 +195,20 @@ padding-is n k {bytes} e =
 pub padded-whole : PaddedWhole
 unfolding padding
 padded-whole m = simp (length-append, length-replicate) (omega arith)
+
+-- one word more, written after those before
+pub word-put : (ws bytes : List ℕ) (i k : ℕ) {put : List ℕ} → length bytes ≡ 4 * length ws → i < length ws → k ≡ 4
+    → put ≡ bytesOf 4 (getD ws i 0)
+    → take (4 * i) bytes ≡ joined (bytesOf 4) (take i ws)
+    → (length (putMid (4 * i) k bytes put) ≡ 4 * length ws)
+    × (take (4 * (i + 1)) (putMid (4 * i) k bytes put) ≡ joined (bytesOf 4) (take (i + 1) ws))
+word-put ws bytes i k {put} lb li lk ep et =
+    let lp : length put ≡ 4 = ap length ep in
+    let lt : length (take (4 * i) bytes) ≡ 4 * i = length-take-le (4 * i) bytes (omega arith) in (
+      simp (length-append, length-drop) (omega (arith, lt)),
+      take-putMid (4 * i) k bytes put (4 * (i + 1)) (omega arith) (omega arith)
+          ∙ ap (λ (v : List ℕ). v ++ put) et
+          ∙ ap (λ (v : List ℕ). joined (bytesOf 4) (take i ws) ++ v) ep
+          ∙ joined-more (bytesOf 4) [] (take i ws) (getD ws i 0)
+          ∙ ap (joined (bytesOf 4)) (sym (take-more ws i 0 li)),
+    )

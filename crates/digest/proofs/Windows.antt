@@ -1,4 +1,4 @@
--- Sixteen words written out; the schedule by sixteens; rounds by sixteens. Assumes nothing.
+-- Words written out; the schedule by sixteens; rounds by sixteens. Assumes nothing.
 use Prim.Native.Nat.{ℕ, zero, suc, _+_, _-_, _*_, _<_, _≤_}
 use mathlib.Core.Path.{_≡_, refl, sym, ap, _∙_}
 use mathlib.Core.List.{List, [], _∷_, _++_, append-assoc, append-nil}
@@ -6,14 +6,13 @@ use native.Mathlib.Nat.{suc-add, zero-add}
 use native.Mathlib.Omega.{arith}
 use lib.ListN.{length, getD, take, drop, length-append}
 use lib.Seq.{getD-drop}
+use Rattle.std.specs.Vectors.{chunked}
 use Rattle.std.proofs.shelf.Lists.{getD-append-right}
 use Rattle.digest.specs.Sha256.{Hash, back, scheduled, lengthened, extended, words, round, rounds, added, compressed, constants}
 
--- sixteen elements of a list, each by its place
+-- eight elements of a list, each by its place
 abbrev pub written : List ℕ → List ℕ
-written w =
-    getD w 0 0 ∷ getD w 1 0 ∷ getD w 2 0 ∷ getD w 3 0 ∷ getD w 4 0 ∷ getD w 5 0 ∷ getD w 6 0 ∷ getD w 7 0 ∷
-    getD w 8 0 ∷ getD w 9 0 ∷ getD w 10 0 ∷ getD w 11 0 ∷ getD w 12 0 ∷ getD w 13 0 ∷ getD w 14 0 ∷ getD w 15 0 ∷ []
+written w = getD w 0 0 ∷ getD w 1 0 ∷ getD w 2 0 ∷ getD w 3 0 ∷ getD w 4 0 ∷ getD w 5 0 ∷ getD w 6 0 ∷ getD w 7 0 ∷ []
 
 abbrev firsts : ℕ → List ℕ → List ℕ
 firsts zero w = []
@@ -25,8 +24,8 @@ firsts-all zero (x ∷ xs) h = absurd (omega (arith, h))
 firsts-all (suc n) [] h = absurd (omega (arith, h))
 firsts-all (suc n) (x ∷ xs) h = ap (λ (v : List ℕ). x ∷ v) (firsts-all n xs (omega (arith, h)))
 
-pub sixteen : (w : List ℕ) → length w ≡ 16 → w ≡ written w
-sixteen w h = firsts-all 16 w h ∙ simp getD-drop
+pub eight : (w : List ℕ) → length w ≡ 8 → w ≡ written w
+eight w h = firsts-all 8 w h ∙ simp getD-drop
 
 -- a word depends on the sixteen before it alone
 back-append : (pre ws : List ℕ) (k : ℕ) → k ≤ length ws → 0 < k → back (pre ++ ws) k ≡ back ws k
@@ -115,13 +114,22 @@ compressed-64 v block w0 w1 w2 w3 l1 l2 {t0} {t1} {t2} {t3} {r} e f0 e1 f1 e2 f2
     let all : t3 ≡ rounds v constants (extended 48 w0) = cc in
     g ∙ ap (added v) (all ∙ ap (λ (w : List ℕ). rounds v constants (extended 48 w)) e)
 
--- the rows, as the code has them
-abbrev pub rows : List (List ℕ)
-rows = row 0 ∷ row 1 ∷ row 2 ∷ row 3 ∷ []
+-- the constants as the code has them: for each sixteen rounds four rows of four
+abbrev quads : ℕ → List (List ℕ)
+quads n = chunked 4 4 (row n)
 
-pub row-of : (n : ℕ) → n < 4 → (row n ≡ getD rows n []) × (length (getD rows n []) ≡ 16)
-row-of zero h = (refl, refl)
-row-of (suc zero) h = (refl, refl)
-row-of (suc (suc zero)) h = (refl, refl)
-row-of (suc (suc (suc zero))) h = (refl, refl)
+abbrev pub table : List (List (List ℕ))
+table = quads 0 ∷ quads 1 ∷ quads 2 ∷ quads 3 ∷ []
+
+abbrev four : List ℕ → List ℕ
+four k = getD k 0 0 ∷ getD k 1 0 ∷ getD k 2 0 ∷ getD k 3 0 ∷ []
+
+abbrev pub flat : List (List ℕ) → List ℕ
+flat k = four (getD k 0 []) ++ (four (getD k 1 []) ++ (four (getD k 2 []) ++ four (getD k 3 [])))
+
+pub row-of : (n : ℕ) → n < 4 → row n ≡ flat (getD table n [])
+row-of zero h = refl
+row-of (suc zero) h = refl
+row-of (suc (suc zero)) h = refl
+row-of (suc (suc (suc zero))) h = refl
 row-of (suc (suc (suc (suc n)))) h = absurd (omega (arith, h))
