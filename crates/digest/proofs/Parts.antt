@@ -1,18 +1,17 @@
 -- A message in parts: its whole blocks, and the bytes after those. Assumes nothing.
 use Prim.Native.Nat.{ℕ, zero, suc, _+_, _-_, _*_, _/_, _%_, _^_, _<_, _≤_}
 use mathlib.Core.Path.{_≡_, refl, sym, ap, _∙_}
-use mathlib.Core.List.{List, [], _∷_, _++_, append-assoc, append-nil}
+use mathlib.Core.List.{List, [], _∷_, _++_, append-assoc}
 use native.Mathlib.Nat.{suc-add, zero-add, zero-mul}
-use native.Mathlib.Numerals.{one-add}
 use native.Mathlib.Omega.{arith}
 use borrow.Rule.Slice.PartMut.{putMid}
-use lib.ListN.{length, getD, take, drop, replicate, length-append, length-drop, length-replicate}
+use lib.ListN.{length, take, drop, length-append, length-drop}
 use Rattle.std.specs.Vectors.{chunked}
-use Rattle.std.specs.shelf.Lists.{joined}
-use Rattle.std.proofs.shelf.Lists.{drop-all, drop-drop, take-at, drop-at, take-append-le, drop-append-le, take-replicate, length-take-le, take-more, joined-more}
+use Rattle.std.proofs.shelf.Lists.{drop-drop, take-at, drop-at, take-append-le, drop-append-le}
 use Rattle.std.proofs.shelf.Parts.{take-putMid}
-use Rattle.digest.specs.Sha256.{Hash, absorbed, blocks, bytesOf, compressed, initial, padding, zeros, PaddedWhole}
+use Rattle.digest.specs.Sha256.{Hash, absorbed, blocks, compressed, initial}
 use Rattle.digest.specs.Running.{Holds, hashOf, remainder}
+use Rattle.digest.proofs.Written.{put-end}
 use Rattle.digest.specs.declared.block.State.{State}
 use Rattle.digest.specs.declared.running.Sha256.{Sha256}
 
@@ -93,12 +92,6 @@ blocks-cons xs ys h =
           ∙ ap (drop (length ys / 64 * 64)) (drop-at xs ys 64 h),
     )
 
--- bytes put at the end of a list
-pub put-end : (a k : ℕ) (xs ys : List ℕ) → length xs ≡ a + k → putMid a k xs ys ≡ take a xs ++ ys
-put-end a k xs ys h =
-    ap (λ (v : List ℕ). take a xs ++ (ys ++ v)) (drop-all k (drop a xs) (simp length-drop (omega arith)))
-    ∙ ap (λ (v : List ℕ). take a xs ++ v) (append-nil ys)
-
 -- a state after a part more, by the bytes that it had left over
 module _ (s : Sha256) (xs ys : List ℕ) (h : Holds s xs) (l64 : length (s .tail) ≡ 64) where
   abbrev filled : ℕ
@@ -112,13 +105,15 @@ module _ (s : Sha256) (xs ys : List ℕ) (h : Holds s xs) (l64 : length (s .tail
       let e : filled ≡ length xs % 64 = omega (arith, h .count) in
       ap (λ (i : ℕ). take i (s .tail)) e ∙ h .tail
 
+  length-left : length left ≡ length xs % 64
+  length-left = ap length left-is ∙ length-remainder xs
+
   held : (t : Sha256) → hashOf (t .state) ≡ absorbed (hashOf (s .state)) (blocks (left ++ ys))
       → take (length (left ++ ys) % 64) (t .tail) ≡ remainder (left ++ ys)
       → t .count ≡ (s .count + length ys) % 2 ^ 64
       → Holds t (xs ++ ys)
   held t eh et ec =
-      let l : length (left ++ ys) % 64 ≡ length (xs ++ ys) % 64 =
-      (let a = length-append left ys in let b = length-append xs ys in let d = ap length left-is ∙ length-remainder xs in omega (arith, a, b, d)) in
+      let l : length (left ++ ys) % 64 ≡ length (xs ++ ys) % 64 = omega (arith, length-append left ys, length-append xs ys, length-left) in
       record {
         hash =
             eh
@@ -134,14 +129,11 @@ module _ (s : Sha256) (xs ys : List ℕ) (h : Holds s xs) (l64 : length (s .tail
         count = ec ∙ omega (arith, h .count, length-append xs ys);
       }
 
-  length-left : length left ≡ filled
-  length-left = length-take-le filled (s .tail) (omega arith)
-
   -- the part fits beside the bytes left over
   pub held-short : (k : ℕ) → length ys < 64 - filled → {put : List ℕ} → put ≡ ys
       → Holds (record { state = s .state; tail = putMid filled k (s .tail) put; count = (s .count + length ys) % 2 ^ 64 }) (xs ++ ys)
   held-short k less {put} e =
-      let n : length (left ++ ys) ≡ filled + length ys = length-append left ys ∙ ap (λ (i : ℕ). i + length ys) length-left in
+      let n : length (left ++ ys) ≡ filled + length ys = length-append left ys ∙ omega (arith, length-left, h .count) in
       let short = blocks-short (left ++ ys) (omega arith) in
       let m : length (left ++ ys) % 64 ≡ filled + length put = omega (arith, ap length e) in
       held (record { state = s .state; tail = putMid filled k (s .tail) put; count = (s .count + length ys) % 2 ^ 64 })
@@ -159,56 +151,15 @@ module _ (s : Sha256) (xs ys : List ℕ) (h : Holds s xs) (l64 : length (s .tail
       → (more : List ℕ) → Holds (record { state = t; tail = end ++ more; count = (s .count + length ys) % 2 ^ 64 }) (xs ++ ys)
   held-full head rest ey lh {put} ep {v} e1 {bs} eb t e2 {end} ee more =
       let b = left ++ head in
-      let lb : length b ≡ 64 = length-append left head ∙ omega (arith, length-left) in
+      let lb : length b ≡ 64 = length-append left head ∙ omega (arith, length-left, h .count) in
       let whole = blocks-cons b rest lb in
-      let ely : left ++ ys ≡ b ++ rest = ap (λ (v : List ℕ). left ++ v) ey ∙ sym (append-assoc left head rest) in
-      let block : putMid filled (64 - filled) (s .tail) put ≡ b = put-end filled (64 - filled) (s .tail) put (omega arith) ∙ ap (λ (v : List ℕ). left ++ v) ep in
-      let le : length end ≡ length (left ++ ys) % 64 =
-      (let a = ap length ely ∙ length-append b rest in let d = ap length ee ∙ length-remainder rest in omega (arith, a, d, lb)) in
+      let ely : left ++ ys ≡ b ++ rest = ap (λ (w : List ℕ). left ++ w) ey ∙ sym (append-assoc left head rest) in
+      let filling = put-end filled (64 - filled) (s .tail) put (omega arith) ∙ ap (λ (w : List ℕ). left ++ w) ep in
+      let le : length end ≡ length (left ++ ys) % 64 = omega (arith, ap length ely, length-append b rest, ap length ee, length-remainder rest) in
       held (record { state = t; tail = end ++ more; count = (s .count + length ys) % 2 ^ 64 })
       (e2
       ∙ ap (absorbed v) eb
-      ∙ ap (λ (u : Hash). absorbed u (blocks rest)) (e1 ∙ ap (compressed (hashOf (s .state))) block)
+      ∙ ap (λ (u : Hash). absorbed u (blocks rest)) (e1 ∙ ap (compressed (hashOf (s .state))) filling)
       ∙ ap (absorbed (hashOf (s .state))) (sym (ap blocks ely ∙ whole .0)))
       (take-at end more (length (left ++ ys) % 64) le ∙ ee ∙ sym (ap remainder ely ∙ whole .1))
       refl
-
--- the padding depends on the length modulo 2 ^ 64 alone
-pub padding-modulo : (n : ℕ) → padding (n % 2 ^ 64) ≡ padding n
-unfolding padding
-padding-modulo n =
-    let e : (n % 2 ^ 64) % 64 ≡ n % 64 = omega arith in
-    let f : ((n % 2 ^ 64) * 8) % 2 ^ 64 ≡ (n * 8) % 2 ^ 64 = omega arith in
-    simp (e, f)
-
--- the padding, written into zeros
-pub padding-is : (n k : ℕ) {bytes : List ℕ} → bytes ≡ bytesOf 8 ((n * 8) % 2 ^ 64)
-    → take (9 + zeros n) (putMid (1 + zeros n) k (0x80 ∷ replicate 71 0) bytes) ≡ padding n
-unfolding padding
-padding-is n k {bytes} e =
-    let z = zeros n in
-    take-putMid (1 + z) k (0x80 ∷ replicate 71 0) bytes (9 + z) (omega (arith, ap length e)) (omega arith)
-    ∙ ap (λ (i : ℕ). take i (0x80 ∷ replicate 71 0) ++ bytes) (one-add z)
-    ∙ ap (λ (v : List ℕ). 0x80 ∷ (v ++ bytes)) (take-replicate z 71 0 (omega arith))
-    ∙ ap (λ (v : List ℕ). 0x80 ∷ (replicate z 0 ++ v)) e
-
-pub padded-whole : PaddedWhole
-unfolding padding
-padded-whole m = simp (length-append, length-replicate) (omega arith)
-
--- one word more, written after those before
-pub word-put : (ws bytes : List ℕ) (i k : ℕ) {put : List ℕ} → length bytes ≡ 4 * length ws → i < length ws → k ≡ 4
-    → put ≡ bytesOf 4 (getD ws i 0)
-    → take (4 * i) bytes ≡ joined (bytesOf 4) (take i ws)
-    → (length (putMid (4 * i) k bytes put) ≡ 4 * length ws)
-    × (take (4 * (i + 1)) (putMid (4 * i) k bytes put) ≡ joined (bytesOf 4) (take (i + 1) ws))
-word-put ws bytes i k {put} lb li lk ep et =
-    let lp : length put ≡ 4 = ap length ep in
-    let lt : length (take (4 * i) bytes) ≡ 4 * i = length-take-le (4 * i) bytes (omega arith) in (
-      simp (length-append, length-drop) (omega (arith, lt)),
-      take-putMid (4 * i) k bytes put (4 * (i + 1)) (omega arith) (omega arith)
-          ∙ ap (λ (v : List ℕ). v ++ put) et
-          ∙ ap (λ (v : List ℕ). joined (bytesOf 4) (take i ws) ++ v) ep
-          ∙ joined-more (bytesOf 4) [] (take i ws) (getD ws i 0)
-          ∙ ap (joined (bytesOf 4)) (sym (take-more ws i 0 li)),
-    )

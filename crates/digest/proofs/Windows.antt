@@ -63,16 +63,18 @@ extended-add (suc n) m ws = ap (λ (k : ℕ). extended k ws) (suc-add n m) ∙ e
 extended-turn : (n : ℕ) (w u : List ℕ) → length u ≡ 16 → extended 16 w ≡ w ++ u → extended (16 + n) w ≡ w ++ extended n u
 extended-turn n w u h e = extended-add 16 n w ∙ ap (extended n) e ∙ extended-append n w u (omega (arith, h))
 
+infixr 5 _▹_ _▸_
 -- each of these words is the next of the schedule
-abbrev pub Follow : List ℕ → List ℕ → Type 0
-Follow ws [] = Unit {0}
-Follow ws (u ∷ us) = (u ≡ scheduled (back ws 2) (back ws 7) (back ws 15) (back ws 16)) × Follow (ws ++ u ∷ []) us
+pub data Follow : List ℕ → List ℕ → Type 0 where
+  none : {ws : List ℕ} → Follow ws []
+  _▹_ : {ws us : List ℕ} {u : ℕ} → u ≡ scheduled (back ws 2) (back ws 7) (back ws 15) (back ws 16) → Follow (ws ++ u ∷ []) us
+      → Follow ws (u ∷ us)
 
-pub followed : (ws us : List ℕ) → Follow ws us → extended (length us) ws ≡ ws ++ us
+pub followed : {ws us : List ℕ} → Follow ws us → extended (length us) ws ≡ ws ++ us
 unfolding extended lengthened
-followed ws [] f = sym (append-nil ws)
-followed ws (u ∷ us) f =
-    ap (λ (x : ℕ). extended (length us) (ws ++ x ∷ [])) (sym (f .0)) ∙ followed (ws ++ u ∷ []) us (f .1) ∙ append-assoc ws (u ∷ []) us
+followed {ws} none = sym (append-nil ws)
+followed {ws} (_▹_ {us = us} {u = u} e f) =
+    ap (λ (x : ℕ). extended (length us) (ws ++ x ∷ [])) (sym e) ∙ followed f ∙ append-assoc ws (u ∷ []) us
 
 rounds-append : (v : Hash) (ks ls ws us : List ℕ) → length ks ≡ length ws → rounds v (ks ++ ls) (ws ++ us) ≡ rounds (rounds v ks ws) ls us
 rounds-append v [] ls [] us h = refl
@@ -80,16 +82,14 @@ rounds-append v [] ls (w ∷ ws) us h = absurd (omega (arith, h))
 rounds-append v (k ∷ ks) ls [] us h = absurd (omega (arith, h))
 rounds-append v (k ∷ ks) ls (w ∷ ws) us h = rounds-append (round v k w) ks ls ws us (omega (arith, h))
 
--- these working variables are reached by a round for each constant and word
-abbrev pub Reach : Hash → List ℕ → List ℕ → Hash → Type 0
-Reach v [] ws t = t ≡ v
-Reach v (k ∷ ks) [] t = t ≡ v
-Reach v (k ∷ ks) (w ∷ ws) t = (u : Hash) × (u ≡ round v k w) × Reach u ks ws t
+-- a round for each constant and word leads to these working variables
+pub data Reach : Hash → List ℕ → List ℕ → Hash → Type 0 where
+  here : {v : Hash} → Reach v [] [] v
+  _▸_ : {v u t : Hash} {k w : ℕ} {ks ws : List ℕ} → u ≡ round v k w → Reach u ks ws t → Reach v (k ∷ ks) (w ∷ ws) t
 
-pub reached : (v : Hash) (ks ws : List ℕ) (t : Hash) → Reach v ks ws t → t ≡ rounds v ks ws
-reached v [] ws t r = r
-reached v (k ∷ ks) [] t r = r
-reached v (k ∷ ks) (w ∷ ws) t r = reached (r .0) ks ws t (r .2) ∙ ap (λ (u : Hash). rounds u ks ws) (r .1)
+pub reached : {v t : Hash} {ks ws : List ℕ} → Reach v ks ws t → t ≡ rounds v ks ws
+reached here = refl
+reached (_▸_ {ks = ks} {ws = ws} e r) = reached r ∙ ap (λ (u : Hash). rounds u ks ws) e
 
 -- the constants of the nth sixteen rounds
 abbrev pub row : ℕ → List ℕ

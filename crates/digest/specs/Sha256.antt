@@ -1,4 +1,5 @@
 -- SHA-256 as RFC 6234 defines it, over lists of bytes. A word is a number below 2 ^ 32. Assumes nothing.
+-- The standard has messages of fewer than 2 ^ 64 bits. Here a longer one has a digest too, with its length taken modulo 2 ^ 64.
 use Prim.Native.Nat.{ℕ, zero, suc, _+_, _-_, _*_, _/_, _%_, _^_}
 use mathlib.Core.Path.{_≡_}
 use mathlib.Core.List.{List, [], _∷_, _++_}
@@ -164,8 +165,7 @@ bytesOf (suc k) n = n / 2 ^ (8 * k) % 256 ∷ bytesOf k n
 abbrev pub zeros : ℕ → ℕ
 zeros n = (119 - n % 64) % 64
 
--- what follows a message of n bytes: a bit 1, zeros, and the length in bits. The standard's messages have fewer than 2 ^ 64 bits; of a
--- longer one, for which it has no digest, the length is taken modulo 2 ^ 64.
+-- what follows a message of n bytes: a bit 1, zeros, and the length in bits
 unfoldable pub padding : ℕ → List ℕ
 padding n = 0x80 ∷ (replicate (zeros n) 0 ++ bytesOf 8 ((n * 8) % 2 ^ 64))
 

@@ -1,4 +1,4 @@
-use Rattle.digest.proofs.Parts.{padded-whole}
+use Rattle.digest.proofs.Written.{padded-whole}
 use Rattle.digest.proofs.padding_stands.Needs as need
 
 pub returns : need.returns

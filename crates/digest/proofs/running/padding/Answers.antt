@@ -3,7 +3,7 @@ use mathlib.Core.Path.{_≡_, sym, _∙_}
 use native.Mathlib.Nat.{div-one}
 use native.Mathlib.Omega.{arith}
 use Rattle.digest.specs.Sha256.{bytesOf, zeros}
-use Rattle.digest.proofs.Parts.{padding-is}
+use Rattle.digest.proofs.Written.{padding-is}
 use Rattle.digest.proofs.running.padding.Needs as need
 
 pub returns : need.returns

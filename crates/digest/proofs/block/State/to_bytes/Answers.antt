@@ -7,7 +7,7 @@ use Rattle.std.specs.shelf.Lists.{joined}
 use Rattle.std.proofs.shelf.Lists.{take-all}
 use Rattle.digest.specs.Running.{hashOf}
 use Rattle.digest.specs.Sha256.{bytesOf, digest, wordsIn}
-use Rattle.digest.proofs.Parts.{word-put}
+use Rattle.digest.proofs.Written.{word-put}
 use Rattle.digest.proofs.block.State.to_bytes.Needs as need
 
 pub loop-i-holds : need.loop-i-holds
@@ -22,7 +22,8 @@ loop-i-again c =
     let ws = wordsIn (hashOf (c .args .self)) in
     let i = c .loop-i .i in
     let e : c .to-be-bytes .result ≡ bytesOf 4 (getD ws i 0) = simp div-one (c .to-be-bytes .ensures) in
-    word-put ws (c .loop-i .bytes) i (4 * i + 4 - 4 * i) (c .loop-i .inv .0) (c .loop-i-test .taken) (omega arith) (c .copy-from-slice .ensures .after ∙ e) (c .loop-i .inv .1)
+    word-put ws (c .loop-i .bytes) i (4 * i + 4 - 4 * i) (c .loop-i .inv .0) (c .loop-i-test .taken) (omega arith)
+    (c .copy-from-slice .ensures .after ∙ e) (c .loop-i .inv .1)
 
 pub returns : need.returns
 unfolding digest hashOf

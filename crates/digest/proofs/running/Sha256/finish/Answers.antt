@@ -4,7 +4,7 @@ use Prim.Native.Nat.{ℕ}
 use lib.ListN.{length}
 use Rattle.digest.specs.Running.{hashOf}
 use Rattle.digest.specs.Sha256.{absorbed, blocks, digest, initial, padding, sha256}
-use Rattle.digest.proofs.Parts.{padding-modulo}
+use Rattle.digest.proofs.Written.{padding-modulo}
 use Rattle.digest.proofs.running.Sha256.finish.Needs as need
 
 pub returns : need.returns
