@@ -53,7 +53,7 @@ module _ (xs ys : List ℕ) where
       let b = length-rest in
       omega (arith, a, b)
 
-  pub blocks-append : blocks (xs ++ ys) ≡ blocks xs ++ blocks (remainder xs ++ ys)
+  blocks-append : blocks (xs ++ ys) ≡ blocks xs ++ blocks (remainder xs ++ ys)
   blocks-append =
       let k = length (remainder xs ++ ys) / 64 in
       ap (λ (i : ℕ). chunked 64 i (xs ++ ys)) count-append
@@ -61,7 +61,7 @@ module _ (xs ys : List ℕ) where
       ∙ ap (λ (v : List (List ℕ)). v ++ chunked 64 k (drop (q * 64) (xs ++ ys))) (chunked-front q xs ys at-most)
       ∙ ap (λ (v : List ℕ). blocks xs ++ chunked 64 k v) (drop-append-le (q * 64) xs ys at-most)
 
-  pub remainder-append : remainder (xs ++ ys) ≡ remainder (remainder xs ++ ys)
+  remainder-append : remainder (xs ++ ys) ≡ remainder (remainder xs ++ ys)
   remainder-append =
       let k = length (remainder xs ++ ys) / 64 in
       let e : length (xs ++ ys) / 64 * 64 ≡ q * 64 + k * 64 = omega (arith, count-append) in
@@ -69,17 +69,17 @@ module _ (xs ys : List ℕ) where
       ∙ sym (drop-drop (k * 64) (q * 64) (xs ++ ys))
       ∙ ap (drop (k * 64)) (drop-append-le (q * 64) xs ys at-most)
 
-pub length-remainder : (xs : List ℕ) → length (remainder xs) ≡ length xs % 64
+length-remainder : (xs : List ℕ) → length (remainder xs) ≡ length xs % 64
 length-remainder xs = length-drop (length xs / 64 * 64) xs ∙ omega arith
 
 -- fewer bytes than a block
-pub blocks-short : (xs : List ℕ) → length xs < 64 → (blocks xs ≡ []) × (remainder xs ≡ xs)
+blocks-short : (xs : List ℕ) → length xs < 64 → (blocks xs ≡ []) × (remainder xs ≡ xs)
 blocks-short xs h =
     let e : length xs / 64 ≡ 0 = omega arith in
     (ap (λ (i : ℕ). chunked 64 i xs) e, ap (λ (i : ℕ). drop (i * 64) xs) e)
 
 -- a block, and what comes after it
-pub blocks-cons : (xs ys : List ℕ) → length xs ≡ 64 → (blocks (xs ++ ys) ≡ xs ∷ blocks ys) × (remainder (xs ++ ys) ≡ remainder ys)
+blocks-cons : (xs ys : List ℕ) → length xs ≡ 64 → (blocks (xs ++ ys) ≡ xs ∷ blocks ys) × (remainder (xs ++ ys) ≡ remainder ys)
 blocks-cons xs ys h =
     let l : length (xs ++ ys) ≡ 64 + length ys = length-append xs ys ∙ omega arith in
     let e : length (xs ++ ys) / 64 ≡ suc (length ys / 64) = omega arith in

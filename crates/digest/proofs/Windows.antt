@@ -92,7 +92,7 @@ reached here = refl
 reached (_▸_ {ks = ks} {ws = ws} e r) = reached r ∙ ap (λ (u : Hash). rounds u ks ws) e
 
 -- the constants of the nth sixteen rounds
-abbrev pub row : ℕ → List ℕ
+abbrev row : ℕ → List ℕ
 row n = take 16 (drop (16 * n) constants)
 
 -- a block's compression, from four times sixteen rounds

@@ -6,12 +6,12 @@ use lib.Dec.{leb, eqb}
 use Rattle.digest.specs.Sha256.{constants, initial, wordsIn}
 
 -- no number from 2 to d + 1 divides n
-abbrev pub undivided : ℕ → ℕ → Bool
+abbrev undivided : ℕ → ℕ → Bool
 undivided zero n = true
 undivided (suc d) n = not (eqb (n % suc (suc d)) 0) && undivided d n
 
 -- n is 2 or more, and no number from 2 to n - 1 divides it
-abbrev pub isPrime : ℕ → Bool
+abbrev isPrime : ℕ → Bool
 isPrime zero = false
 isPrime (suc zero) = false
 isPrime (suc (suc d)) = undivided d (suc (suc d))

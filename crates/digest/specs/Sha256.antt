@@ -10,7 +10,7 @@ use Rattle.std.specs.shelf.Lists.{joined}
 
 infixl 6 _⊕_
 -- the sum of two words, modulo 2 ^ 32
-abbrev pub _⊕_ : ℕ → ℕ → ℕ
+abbrev _⊕_ : ℕ → ℕ → ℕ
 x ⊕ y = (x + y) % 2 ^ 32
 
 -- each bit of a word the other way
@@ -113,7 +113,7 @@ extended zero ws = ws
 extended (suc n) ws = extended n (lengthened ws)
 
 -- the message schedule W_0 .. W_63 of a block
-abbrev pub schedule : List ℕ → List ℕ
+abbrev schedule : List ℕ → List ℕ
 schedule block = extended 48 (words 16 block)
 
 -- the working variables after one round, with K_t and W_t
