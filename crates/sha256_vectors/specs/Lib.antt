@@ -1,1 +1,1 @@
-pub mod Repeated
+pub mod Messages

@@ -1,10 +1,10 @@
 // Prints SHA-256 digests of test messages. A line of standard input is `COUNT HEX`: the message is the bytes HEX, COUNT times over, as
 // `1000000 61` for a million times 'a' and `0 00` for the empty message. For each line, one line of standard output has the digest in
 // hexadecimal. A message with the count 1 is hashed as a whole, any other in COUNT parts. `make.py` wrote this crate's `stdin` and `stdout`.
-ghost use Prim.Native.Nat.{_<_};
+ghost use Prim.Native.Nat.{ℕ, _<_};
 ghost use mathlib.Core.Path.{_≡_};
 ghost use Rattle.digest.specs.Sha256.{sha256 as sha256Of};
-ghost use Rattle.sha256_vectors.specs.Repeated.{repeated};
+ghost use Rattle.sha256_vectors.specs.Messages.{hexDigit, repeated};
 ghost use Rattle.std.specs.Options.{Cases};
 use digest::Sha256;
 use std::alloc::Global;
@@ -28,7 +28,7 @@ fn digest_of(count: u64, part: &[u8]) -> [u8; 32]
 
 // The number that a hexadecimal digit stands for.
 fn digit(c: u8) -> Option<u8>
-    ensures { λ r. ⌜ Cases r (Unit {0}) (λ d. d < 16) ⌝ }
+    ensures { λ r. ⌜ Cases r ((d : ℕ) → d < 16 → hexDigit d ≡ c → ⊥) (λ d. (d < 16) × (hexDigit d ≡ c)) ⌝ }
 {
     match c {
         b'0'..=b'9' => Some(c - b'0'),

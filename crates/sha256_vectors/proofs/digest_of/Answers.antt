@@ -3,7 +3,7 @@ use mathlib.Core.Path.{_≡_, ap, sym, _∙_}
 use native.Mathlib.Numerals.{add-one}
 use native.Mathlib.Omega.{arith}
 use Rattle.digest.specs.Sha256.{sha256}
-use Rattle.sha256_vectors.specs.Repeated.{repeated}
+use Rattle.sha256_vectors.specs.Messages.{repeated}
 use Rattle.sha256_vectors.proofs.digest_of.Needs as need
 
 pub loop-again : need.loop-again

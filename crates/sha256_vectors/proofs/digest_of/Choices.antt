@@ -1,5 +1,5 @@
 use Rattle.digest.specs.Running.{Holds}
-use Rattle.sha256_vectors.specs.Repeated.{repeated}
+use Rattle.sha256_vectors.specs.Messages.{repeated}
 use Rattle.sha256_vectors.proofs.digest_of.Given as given
 
 abbrev pub Inv-loop : given.InvT-loop
