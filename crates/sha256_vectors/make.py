@@ -1,8 +1,8 @@
 #!/usr/bin/env python3
 """Writes this program's `stdin` and `stdout`.
 
-The first lines are published examples, with the digests as published; the others are checked against a second source, Python's hashlib
-(OpenSSL's code). A published digest that hashlib does not give ends the script.
+The first lines are messages of published examples, with their digests listed below; the others have their digests from a second source,
+Python's hashlib. A listed digest that hashlib does not give ends the script.
 """
 import hashlib
 import pathlib

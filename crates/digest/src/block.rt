@@ -199,7 +199,7 @@ macro_rules! step {
     };
 }
 
-// Sixteen rounds, each with a word that is made just before it from the sixteen before: a loop, or all words first, would be slower.
+// Sixteen rounds, written out for speed, each with a word that is made just before it from the sixteen before.
 fn turn<const N: usize>(s: State, low: [u32; 8], high: [u32; 8]) -> (State, [u32; 8], [u32; 8])
     requires { ⌜ N < 4 ⌝ }
     ensures next { λ r. ⌜ extended 16 (low ++ high) ≡ (low ++ high) ++ (r .1 ++ r .2) ⌝ }
