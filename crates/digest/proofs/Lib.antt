@@ -1,0 +1,4 @@
+pub mod Windows
+pub mod Written
+pub mod Parts
+pub mod Roots
