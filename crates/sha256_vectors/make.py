@@ -1,11 +1,15 @@
 #!/usr/bin/env python3
-"""Writes this program's `stdin` and `stdout`.
+"""Writes this program's `stdin` and `stdout`: make.py SHA256ShortMsg.rsp SHA256LongMsg.rsp
 
-The first lines are messages of published examples, with their digests listed below; the others have their digests from a second source,
-Python's hashlib. A listed digest that hashlib does not give ends the script.
+The arguments are the paths of NIST's two files of SHA-256 messages of whole bytes. First come published examples, with their digests
+listed below; then every message of the two files, with its digest from the file; the others have their digests from a second source,
+Python's hashlib. The script ends and writes nothing where hashlib does not give a digest that is listed or in a file, or where a file is
+not in its format or has other lengths than listed below.
 """
 import hashlib
 import pathlib
+import re
+import sys
 
 HERE = pathlib.Path(__file__).parent
 
@@ -40,25 +44,53 @@ PUBLISHED = [
     (1000, b"A", "c2e686823489ced2017f6059b8b239318b6364f6dcd835d0a519105a1eadd6e4"),
     (1005, b"U", "f4d62ddec0f3dd90ea1380fa16a5ff8dc4c54b21740650f24afc4120903552b0"),
     (1000000, b"\0", "d29751f2649b32ff572b5e0a9f541ea660a50f94ff0beedfb0b692b924cc8025"),
-    # NIST's SHAVS, short messages of whole bytes
-    (1, bytes.fromhex("d3"), "28969cdfa74a12c82f3bad960b0b000aca2ac329deea5c2328ebc6f2ba9802c1"),
-    (1, bytes.fromhex("11af"), "5ca7133fa735326081558ac312c620eeca9970d1e70a4b95533d956f072d1f98"),
-    (1, bytes.fromhex("b4190e"), "dff2e73091f6c05e528896c4c831b9448653dc2ff043528f6769437bc7b975c2"),
-    (1, bytes.fromhex("74ba2521"), "b16aa56be3880d18cd41e68384cf1ec8c17680c45a02b1575dc1518923ae8b0e"),
-    (1, bytes.fromhex("c299209682"), "f0887fe961c9cd3beab957e8222494abb969b1ce4c6557976df8b0f6d20e9166"),
 ]
+
+# The numbers of bytes that the messages of the two files have, in their order.
+SHORT_LENGTHS = list(range(65))
+LONG_LENGTHS = [64 + 99 * i for i in range(1, 65)]
+
+RECORD = re.compile(r"Len = ([0-9]+)\nMsg = ([0-9a-f]+)\nMD = ([0-9a-f]{64})")
 
 
 def message(length):
     return bytes((7 * i + length) % 256 for i in range(length))
 
 
+def confirmed(count, part, digest):
+    if hashlib.sha256(part * count).hexdigest() != digest:
+        raise SystemExit(f"hashlib does not give {digest}")
+    return count, part, digest
+
+
+def record(path, text):
+    """The case that a record of a file names. The empty message has the length 0 and a byte that does not count."""
+    found = RECORD.fullmatch(text)
+    if not found:
+        raise SystemExit(f"{path}: not a record: {text[:60]!r}")
+    bits, part, digest = int(found[1]), bytes.fromhex(found[2]), found[3]
+    count = 0 if bits == 0 and part == b"\0" else 1
+    if 8 * len(part) * count != bits:
+        raise SystemExit(f"{path}: the message is not of {bits} bits")
+    return confirmed(count, part, digest)
+
+
+def published(path, lengths):
+    lines = [line.strip() for line in pathlib.Path(path).read_text("ascii").splitlines()]
+    head, *texts = re.split("\n{2,}", "\n".join(line for line in lines if not line.startswith("#")).strip())
+    if head != "[L = 32]":
+        raise SystemExit(f"{path}: not a file of SHA-256 messages")
+    cases = [record(path, text) for text in texts]
+    if [count * len(part) for count, part, _ in cases] != lengths:
+        raise SystemExit(f"{path}: other lengths than those of NIST's file")
+    return cases
+
+
 def main():
-    cases = []
-    for count, part, digest in PUBLISHED:
-        if hashlib.sha256(part * count).hexdigest() != digest:
-            raise SystemExit(f"hashlib does not give {digest}")
-        cases.append((count, part, digest))
+    if len(sys.argv) != 3:
+        raise SystemExit("usage: make.py SHA256ShortMsg.rsp SHA256LongMsg.rsp")
+    cases = [confirmed(*case) for case in PUBLISHED]
+    cases += published(sys.argv[1], SHORT_LENGTHS) + published(sys.argv[2], LONG_LENGTHS)
     # every length up to two blocks and more, as a whole; and some lengths in parts, for the cuts of a running state
     others = [(1, message(n)) for n in range(131)]
     others += [(count, message(n)) for n in (3, 31, 33, 55, 56, 63, 64, 65, 127, 128, 129, 200) for count in (2, 5)]
