@@ -2,10 +2,9 @@
 //! Each paper stands behind its length in four bytes, high byte first. `make.py` writes the input and what is expected.
 ghost use Rattle.wire.specs.Formats.{andThen, Cuts};
 ghost use Rattle.wire.specs.Numbers.{block, number};
-use metadata::paper::Metadata;
-use metadata::paper::metadata_in;
+use desk::CheckedDisplay;
+use desk::check_bytes;
 use std::error::AnyError;
-use std::io;
 use std::io::Read;
 use wire::number::read_u32;
 
@@ -21,17 +20,6 @@ fn split_paper(bytes: &[u8]) -> Option<(&[u8], &[u8])>
     Some(rest.split_at(length))
 }
 
-/// One line for a paper.
-fn judge(rt: &LibcRuntime, bytes: &[u8]) -> io::Result<()> {
-    match metadata_in(bytes) {
-        Ok(Metadata::Root(root)) => println!(rt, "ok root {}", root.version),
-        Ok(Metadata::Timestamp(timestamp)) => println!(rt, "ok clock {}", timestamp.version),
-        Ok(Metadata::Snapshot(snapshot)) => println!(rt, "ok index {}", snapshot.version),
-        Ok(Metadata::Targets(targets)) => println!(rt, "ok list {}", targets.version),
-        Err(fault) => println!(rt, "{}", fault.number()),
-    }
-}
-
 fn judge_all(rt: &LibcRuntime) -> Result<(), AnyError> {
     let mut input = Vec::new(rt.alloc());
     rt.stdin().read_to_end(&mut input)?;
@@ -40,7 +28,8 @@ fn judge_all(rt: &LibcRuntime) -> Result<(), AnyError> {
         let Some((paper, rest)) = split_paper(left) else {
             break;
         };
-        judge(rt, paper)?;
+        let checked = check_bytes(paper);
+        println!(rt, "{checked}")?;
         left = rest;
     }
     Ok(())
