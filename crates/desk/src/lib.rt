@@ -2,6 +2,10 @@
 ghost use mathlib.Core.Path.{_≡_};
 ghost use Rattle.metadata.specs.Papers.{paperIn};
 ghost use Rattle.desk.specs.Checks.{checkedOf, wordOf};
+
+pub mod draft;
+pub mod lines;
+
 use metadata::paper::Metadata;
 use metadata::paper::metadata_in;
 use model::fault::Fault;
