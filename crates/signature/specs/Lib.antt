@@ -1,0 +1,4 @@
+pub mod StandIn
+pub mod Signatures
+pub mod Views
+pub mod Counting
