@@ -34,8 +34,8 @@ pub fn sign_stand_in(key: &Bytes32, message: &[u8]) -> [u8; 64]
     signature
 }
 
-/// Whether all bytes are the same.
-fn same_slice(a: &[u8], b: &[u8]) -> bool
+/// Whether all bytes of two signatures are the same.
+fn same_signature(a: &[u8; 64], b: &[u8; 64]) -> bool
     ensures { λ r. ⌜ r ≡ sameList (now (a .entry)) (now (b .entry)) ⌝ }
 {
     a == b
@@ -47,7 +47,7 @@ pub impl Verifier for StandIn as StandInVerifier {
     ghost signed = { standInSigned };
 
     fn check(&self, key: &Bytes32, message: &[u8], signature: &[u8; 64]) -> bool {
-        same_slice(signature, &sign_stand_in(key, message))
+        same_signature(signature, &sign_stand_in(key, message))
     }
 }
 
