@@ -2,10 +2,10 @@ use borrow.Author.Rules.{rules}
 use Rattle.model.specs.Lists.{all}
 use Rattle.rotation.proofs.stays.Goals as goal
 
-pub returns-then-same-quorum : goal.returns-then-same-quorum
+pub returns-then-same_quorum : goal.returns-then-same_quorum
 unfolding all
-returns-then-same-quorum c = search rules
+returns-then-same_quorum c = search rules
 
-pub returns-else-same-quorum : goal.returns-else-same-quorum
+pub returns-else-same_quorum : goal.returns-else-same_quorum
 unfolding all
-returns-else-same-quorum c = search rules
+returns-else-same_quorum c = search rules

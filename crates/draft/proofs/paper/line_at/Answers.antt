@@ -14,7 +14,7 @@ module _ (xs : List ℕ) (i : ℕ) (h : i < length xs) where
 
 pub loop-byte-preserved : goal.loop-byte-preserved
 loop-byte-preserved c =
-    let front = take c.saturating-sub.result c.args.text.now in
+    let front = take c.saturating_sub.result c.args.text.now in
     elim c.if-byte-eq10.branch [
       | then-byte-eq10 w ↦ (omega (arith, w.line-is, one_more front c.loop-byte.byte-index c.loop-byte-test.true w.if-byte-eq10.true, c.loop-byte.invariant.0), omega (arith, w.line-is, c.loop-byte.invariant.1))
       | else-byte-eq10 w ↦ (omega (arith, w.line-is, none_more front c.loop-byte.byte-index c.loop-byte-test.true w.if-byte-eq10.false, c.loop-byte.invariant.0), omega (arith, w.line-is, c.loop-byte.invariant.1))
@@ -23,7 +23,7 @@ loop-byte-preserved c =
 pub returns : goal.returns
 unfolding line_at
 returns c =
-    let front = take c.saturating-sub.result c.args.text.now in
+    let front = take c.saturating_sub.result c.args.text.now in
     let none : line_ends (drop c.loop-byte.byte-index front) ≡ 0 = ap line_ends (drop_all c.loop-byte.byte-index front c.loop-byte-test.false) in
-    let all : line_ends front ≡ line_ends (take (length c.args.text.now - c.args.left) c.args.text.now) = ap (λ n. line_ends (take n c.args.text.now)) c.saturating-sub.ensures in
+    let all : line_ends front ≡ line_ends (take (length c.args.text.now - c.args.left) c.args.text.now) = ap (λ n. line_ends (take n c.args.text.now)) c.saturating_sub.ensures in
     omega (arith, none, all, c.loop-byte.invariant.0)

@@ -4,7 +4,7 @@ use Rattle.draft_list.proofs.list.put_branch.Goals as goal
 
 pub returns : goal.returns
 returns c = record {
-  value = record { role = c.in-ok-role.role; quorum = c.in-ok-rest.ensures.value; prefix = path_of c.in-ok-start.start; terminating = c.in-ok-last.last };
+  value = record { role = c.in_ok-role.role; quorum = c.in_ok-rest.ensures.value; prefix = path_of c.in_ok-start.start; terminating = c.in_ok-last.last };
   is_read = search rules;
   is-written = search (rules, append_assoc);
 }

@@ -4,7 +4,7 @@ use Rattle.draft_list.proofs.list.put_file.Goals as goal
 
 pub returns : goal.returns
 returns c = record {
-  value = record { path = path_of c.in-ok-path.path; size = c.in-ok-size.size; digest = c.in-ok-digest.digest };
+  value = record { path = path_of c.in_ok-path.path; size = c.in_ok-size.size; digest = c.in_ok-digest.digest };
   is_read = search rules;
   is-written = search (rules, append_assoc);
   keyed = refl;

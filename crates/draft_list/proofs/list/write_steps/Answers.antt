@@ -14,9 +14,9 @@ loop-step-preserved c =
     let steps = c.args.steps.now in
     let i = c.loop-step.step-index in
     let long : length (get_or steps i []) ≡ 2 = All-get_or Two steps i [] c.loop-step-test.true (All-from_get_or Two steps [] c.told-steps) in
-    let n : c.from-be-bytes.result ≡ big_endian (get_or steps i []) = c.from-be-bytes.ensures ∙ sym (two (get_or steps i []) long) in
-    wrote-more (λ p. bytes_of 2 (big_endian p)) (vec_items c.args.out.now) steps (vec_items c.loop-step.out) (vec_items c.write-u16.new.out) i [] c.loop-step-test.true c.loop-step.invariant
-    (c.in-ok-write-u16.ensures ∙ ap (λ m. vec_items c.loop-step.out ++ bytes_of 2 m) n)
+    let n : c.from_be_bytes.result ≡ big_endian (get_or steps i []) = c.from_be_bytes.ensures ∙ sym (two (get_or steps i []) long) in
+    wrote-more (λ p. bytes_of 2 (big_endian p)) (vec_items c.args.out.now) steps (vec_items c.loop-step.out) (vec_items c.write_u16.new.out) i [] c.loop-step-test.true c.loop-step.invariant
+    (c.in_ok-write_u16.ensures ∙ ap (λ m. vec_items c.loop-step.out ++ bytes_of 2 m) n)
 
 pub returns : goal.returns
 returns c =

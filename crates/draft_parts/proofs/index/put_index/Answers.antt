@@ -6,10 +6,10 @@ use Rattle.draft_parts.proofs.index.put_index.Goals as goal
 
 pub returns : goal.returns
 returns c =
-    let metas = c.in-ok-rest.ensures.value in
-    let many : length metas ≡ c.in-ok-count.count = chain_length meta (λ (m : Meta). m.role) c.in-ok-count.count None c.in-ok-count.rest.now (metas, c.in-ok-rest.rest.now) c.in-ok-rest.ensures.is_read in
+    let metas = c.in_ok-rest.ensures.value in
+    let many : length metas ≡ c.in_ok-count.count = chain_length meta (λ (m : Meta). m.role) c.in_ok-count.count None c.in_ok-count.rest.now (metas, c.in_ok-rest.rest.now) c.in_ok-rest.ensures.is_read in
     record {
-      value = record { version = c.in-ok-number.number; expires = c.in-ok-last-day.last-day; metas = metas };
+      value = record { version = c.in_ok-number.number; expires = c.in_ok-last_day.last_day; metas = metas };
       is_read = search rules;
       is-written = search (rules, append_assoc, many);
     }

@@ -3,7 +3,7 @@ use Rattle.draft_parts.proofs.index.put_meta.Goals as goal
 
 pub returns : goal.returns
 returns c = record {
-  value = record { role = c.in-ok-role.role; version = c.in-ok-number.number };
+  value = record { role = c.in_ok-role.role; version = c.in_ok-number.number };
   is_read = search rules;
   is-written = search (rules, append_assoc);
   keyed = refl;

@@ -5,10 +5,10 @@ use Rattle.draft_parts.proofs.quorum.put_quorum.Goals as goal
 
 pub returns : goal.returns
 returns c =
-    let keys = c.in-ok-rest.ensures.value in
-    let many : length keys ≡ c.in-ok-count.count = chain_length key_line (λ (k : List ℕ). k) c.in-ok-count.count None c.in-ok-asked.rest.now (keys, c.in-ok-rest.rest.now) c.in-ok-rest.ensures.is_read in
+    let keys = c.in_ok-rest.ensures.value in
+    let many : length keys ≡ c.in_ok-count.count = chain_length key_line (λ (k : List ℕ). k) c.in_ok-count.count None c.in_ok-asked.rest.now (keys, c.in_ok-rest.rest.now) c.in_ok-rest.ensures.is_read in
     record {
-      value = record { keys = keys; threshold = c.in-ok-asked.asked };
+      value = record { keys = keys; threshold = c.in_ok-asked.asked };
       is_read = search rules;
       is-written = search (rules, append_assoc, many);
     }

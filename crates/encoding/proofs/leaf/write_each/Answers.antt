@@ -14,9 +14,9 @@ as_read out after n m a e = a ∙ ap (λ (k : ℕ). out ++ bytes_of 2 k) (sym e)
 pub loop-step-preserved : goal.loop-step-preserved
 loop-step-preserved c =
     let p = get_or c.args.steps.now c.loop-step.step-index [] in
-    let n : big_endian p ≡ c.from-be-bytes.result = two p (c.told-steps c.loop-step.step-index c.loop-step-test.true) ∙ sym c.from-be-bytes.ensures in
-    wrote-more step (vec_items c.args.out.now) c.args.steps.now (vec_items c.loop-step.out) (vec_items c.write-u16.new.out) c.loop-step.step-index [] c.loop-step-test.true c.loop-step.invariant
-    (as_read (vec_items c.loop-step.out) (vec_items c.write-u16.new.out) c.from-be-bytes.result (big_endian p) c.in-ok-write-u16.ensures n)
+    let n : big_endian p ≡ c.from_be_bytes.result = two p (c.told-steps c.loop-step.step-index c.loop-step-test.true) ∙ sym c.from_be_bytes.ensures in
+    wrote-more step (vec_items c.args.out.now) c.args.steps.now (vec_items c.loop-step.out) (vec_items c.write_u16.new.out) c.loop-step.step-index [] c.loop-step-test.true c.loop-step.invariant
+    (as_read (vec_items c.loop-step.out) (vec_items c.write_u16.new.out) c.from_be_bytes.result (big_endian p) c.in_ok-write_u16.ensures n)
 
 pub returns : goal.returns
 returns c =

@@ -4,7 +4,7 @@ use Rattle.encoding.proofs.leaf.write_keys.Goals as goal
 
 pub loop-key-preserved : goal.loop-key-preserved
 loop-key-preserved c =
-    wrote-more (λ k. k) (vec_items c.args.out.now) c.args.keys.now (vec_items c.loop-key.out) (vec_items c.write-block.new.out) c.loop-key.key-index [] c.loop-key-test.true c.loop-key.invariant c.in-ok-write-block.ensures
+    wrote-more (λ k. k) (vec_items c.args.out.now) c.args.keys.now (vec_items c.loop-key.out) (vec_items c.write_block.new.out) c.loop-key.key-index [] c.loop-key-test.true c.loop-key.invariant c.in_ok-write_block.ensures
 
 pub returns : goal.returns
 returns c = wrote-all (λ k. k) (vec_items c.args.out.now) c.args.keys.now (vec_items c.loop-key.out) c.loop-key.key-index c.loop-key-test.false c.loop-key.invariant

@@ -6,7 +6,7 @@ use Rattle.encoding_papers.proofs.paper.write_files.Goals as goal
 
 pub loop-file-preserved : goal.loop-file-preserved
 loop-file-preserved c =
-    left-more file.write (vec_items c.loop-file.out) (vec_items c.write-file.new.out) (files_of c.loop-file.left) (file_of c.in-Some.file) (files_of c.in-Some.rest) _ c.in-Some.ensures.0 c.in-ok-write-file.ensures c.loop-file.invariant
+    left-more file.write (vec_items c.loop-file.out) (vec_items c.write_file.new.out) (files_of c.loop-file.left) (file_of c.in-Some.file) (files_of c.in-Some.rest) _ c.in-Some.ensures.0 c.in_ok-write_file.ensures c.loop-file.invariant
 
 pub returns : goal.returns
-returns c = left-none file.write (vec_items c.loop-file.out) (files_of c.loop-file.left) _ c.in-default.ensures c.loop-file.invariant
+returns c = left-none file.write (vec_items c.loop-file.out) (files_of c.loop-file.left) _ c.in_default.ensures c.loop-file.invariant

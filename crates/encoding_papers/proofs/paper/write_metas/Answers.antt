@@ -6,7 +6,7 @@ use Rattle.encoding_papers.proofs.paper.write_metas.Goals as goal
 
 pub loop-meta-preserved : goal.loop-meta-preserved
 loop-meta-preserved c =
-    left-more meta.write (vec_items c.loop-meta.out) (vec_items c.write-meta.new.out) (metas_of c.loop-meta.left) (meta_of c.in-Some.meta) (metas_of c.in-Some.rest) _ c.in-Some.ensures.0 c.in-ok-write-meta.ensures c.loop-meta.invariant
+    left-more meta.write (vec_items c.loop-meta.out) (vec_items c.write_meta.new.out) (metas_of c.loop-meta.left) (meta_of c.in-Some.meta) (metas_of c.in-Some.rest) _ c.in-Some.ensures.0 c.in_ok-write_meta.ensures c.loop-meta.invariant
 
 pub returns : goal.returns
-returns c = left-none meta.write (vec_items c.loop-meta.out) (metas_of c.loop-meta.left) _ c.in-default.ensures c.loop-meta.invariant
+returns c = left-none meta.write (vec_items c.loop-meta.out) (metas_of c.loop-meta.left) _ c.in_default.ensures c.loop-meta.invariant

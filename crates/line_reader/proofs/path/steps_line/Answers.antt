@@ -16,12 +16,12 @@ few low ss a =
     let w = from-within low 8 (length ss) t.0 in
     (w.0, (w.1, all-below 65536 ss t.1))
 
-pub returns-in-default : goal.returns-in-default
-returns-in-default c = no-steps-word c.args.word c.args.low c.args.text.now c.in-default.ensures
+pub returns-in_default : goal.returns-in_default
+returns-in_default c = no-steps-word c.args.word c.args.low c.args.text.now c.in_default.ensures
 
-pub returns-in-default-path-in : goal.returns-in-default-path-in
-returns-in-default-path-in c =
-    no_steps c.args.word c.args.low c.args.text.now c.in-Some.value.now c.in-Some.rest.now c.in-Some.ensures (λ ss a e. c.in-default-path-in.ensures ss (few c.args.low ss a).1 e)
+pub returns-in_default-path_in : goal.returns-in_default-path_in
+returns-in_default-path_in c =
+    no_steps c.args.word c.args.low c.args.text.now c.in-Some.value.now c.in-Some.rest.now c.in-Some.ensures (λ ss a e. c.in_default-path_in.ensures ss (few c.args.low ss a).1 e)
 
 -- the same text has the same steps
 same-steps : (ss ts : Steps) → FewSteps ss → FewSteps ts → steps_from 32 ss ≡ steps_from 32 ts → ss ≡ ts
@@ -29,16 +29,16 @@ same-steps ss ts f g e = sym (steps-again ss f.1) ∙ ap steps_in e ∙ steps-ag
 
 pub returns-then-steps-low : goal.returns-then-steps-low
 returns-then-steps-low c =
-    let p = c.in-Some-path-in.ensures in
+    let p = c.in-Some-path_in.ensures in
     no_steps c.args.word c.args.low c.args.text.now c.in-Some.value.now c.in-Some.rest.now c.in-Some.ensures (λ ss a e.
     let f = few c.args.low ss a in
-    let same = same-steps (path_of c.in-Some-path-in.path) ss p.1 f.1 (sym p.0 ∙ e) in
+    let same = same-steps (path_of c.in-Some-path_in.path) ss p.1 f.1 (sym p.0 ∙ e) in
     omega (arith, f.0, ap length same, ap length c.steps.ensures.value, length-map c.steps.result.now big_endian, c.if-steps-low.true))
 
 pub returns : goal.returns
 returns c =
-    let p = c.in-Some-path-in.ensures in
-    let ss = path_of c.in-Some-path-in.path in
+    let p = c.in-Some-path_in.ensures in
+    let ss = path_of c.in-Some-path_in.path in
     let enough : c.args.low ≤ length ss = omega (arith, ap length c.steps.ensures.value, length-map c.steps.result.now big_endian, c.if-steps-low.false) in
     one-steps c.args.word c.args.low c.args.text.now c.in-Some.value.now c.in-Some.rest.now c.in-Some.ensures ss
     (and_from (within c.args.low 8 (length ss)) (all_below 65536 ss) (and_from (leb c.args.low (length ss)) (leb (length ss) 8) (le-leb c.args.low (length ss) enough) (le-leb (length ss) 8 p.1.0)) (below_all 65536 ss p.1.1)) p.0

@@ -4,6 +4,6 @@ use Rattle.line_reader.proofs.value.hex_byte.Goals as goal
 
 pub returns : goal.returns
 returns c =
-    let h = c.in-ok-high.ensures in
-    let l = c.in-ok-low.ensures in
-    (both_of c.args.pair (omega arith) ∙ hex-byte-is (get_or c.args.pair 0 0) (get_or c.args.pair 1 0) c.in-ok-high.high c.in-ok-low.low h.0 l.0 l.1, omega (arith, h.1, l.1))
+    let h = c.in_ok-high.ensures in
+    let l = c.in_ok-low.ensures in
+    (both_of c.args.pair (omega arith) ∙ hex-byte-is (get_or c.args.pair 0 0) (get_or c.args.pair 1 0) c.in_ok-high.high c.in_ok-low.low h.0 l.0 l.1, omega (arith, h.1, l.1))

@@ -11,19 +11,19 @@ use Rattle.metadata.proofs.targets.read_files.Goals as goal
 pub loop-done-init : goal.loop-done-init
 loop-done-init c = ([], rising-start file (λ (x : File). x.path) below c.args.count c.args.bytes.now)
 
-pub returns-in-err-file : goal.returns-in-err-file
-returns-in-err-file c =
+pub returns-in_err-file : goal.returns-in_err-file
+returns-in_err-file c =
     let p = err_from_is_err_and c.from-residual.result c.from-residual.ensures.1 in
-    rw (p.1, p.2) (sym (rising-fault file (λ (x : File). x.path) below c.loop-done.invariant.0 (option_map (λ p. steps_of p.now) c.loop-done.last) c.args.count c.loop-done.done c.loop-done.rest.now c.in-err-file.field-0.0 c.loop-done-test.true c.in-err-file.ensures ∙ c.loop-done.invariant.1))
+    rw (p.1, p.2) (sym (rising-fault file (λ (x : File). x.path) below c.loop-done.invariant.0 (option_map (λ p. steps_of p.now) c.loop-done.last) c.args.count c.loop-done.done c.loop-done.rest.now c.in_err-file.field-0.0 c.loop-done-test.true c.in_err-file.ensures ∙ c.loop-done.invariant.1))
 
-pub returns-then-not-path-follows : goal.returns-then-not-path-follows
-returns-then-not-path-follows c =
-    sym (rising-order file (λ (x : File). x.path) below c.loop-done.invariant.0 (option_map (λ p. steps_of p.now) c.loop-done.last) c.args.count c.loop-done.done c.loop-done.rest.now c.in-ok-file.after.now (file_of c.in-ok-file.file) c.loop-done-test.true c.in-ok-file.ensures (sym c.if-not-path-follows.ensures) ∙ c.loop-done.invariant.1)
+pub returns-then-not-path_follows : goal.returns-then-not-path_follows
+returns-then-not-path_follows c =
+    sym (rising-order file (λ (x : File). x.path) below c.loop-done.invariant.0 (option_map (λ p. steps_of p.now) c.loop-done.last) c.args.count c.loop-done.done c.loop-done.rest.now c.in_ok-file.after.now (file_of c.in_ok-file.file) c.loop-done-test.true c.in_ok-file.ensures (sym c.if-not-path_follows.ensures) ∙ c.loop-done.invariant.1)
 
 pub loop-done-preserved : goal.loop-done-preserved
 loop-done-preserved c = (
-  c.loop-done.invariant.0 ++ file_of c.in-ok-file.file ∷ [],
-  rising-more file (λ (x : File). x.path) below c.loop-done.invariant.0 (option_map (λ p. steps_of p.now) c.loop-done.last) c.args.count c.loop-done.done c.loop-done.rest.now c.in-ok-file.after.now (file_of c.in-ok-file.file) c.loop-done-test.true c.in-ok-file.ensures (sym c.if-not-path-follows.ensures)
+  c.loop-done.invariant.0 ++ file_of c.in_ok-file.file ∷ [],
+  rising-more file (λ (x : File). x.path) below c.loop-done.invariant.0 (option_map (λ p. steps_of p.now) c.loop-done.last) c.args.count c.loop-done.done c.loop-done.rest.now c.in_ok-file.after.now (file_of c.in_ok-file.file) c.loop-done-test.true c.in_ok-file.ensures (sym c.if-not-path_follows.ensures)
       ∙ c.loop-done.invariant.1,
 )
 

@@ -20,23 +20,23 @@ returns-in-Err g c =
     let left = c.loop-left.left.now in
     let said = vec_items c.loop-left.answers in
     at_last accepts d c.args.bytes.now said here left c.loop-left.invariant (Refused c.in-Err.fault) (vec_items c.push.new.self)
-    (stops c.in-Err.fault (λ e. eqb-false (length left) 0 (sym c.loop-left-test.ensures) (ap length e)) c.in-Err.ensures) c.in-ok-push.ensures.items
+    (stops c.in-Err.fault (λ e. eqb-false (length left) 0 (sym c.loop-left-test.ensures) (ap length e)) c.in-Err.ensures) c.in_ok-push.ensures.items
 
-pub returns-in-default : goal.returns-in-default
-returns-in-default g c =
+pub returns-in_default : goal.returns-in_default
+returns-in_default g c =
     let accepts = g.V.Verifier.accepts in
     let d = device_of accepts (holding_of c.args.device.now) in
     let here = device_of accepts (holding_of c.loop-left.device) in
     let left = c.loop-left.left.now in
     let said = vec_items c.loop-left.answers in
-    at_last accepts d c.args.bytes.now said here left c.loop-left.invariant (Refused Malformed) (vec_items c.push-in-default.new.self)
-    (asks (item_of c.in-Ok.read.0) c.in-Ok.ensures (question c.in-Ok.read.0 c.in-default.not-Offer c.in-default.not-Day)) c.in-ok-push-4.ensures.items
+    at_last accepts d c.args.bytes.now said here left c.loop-left.invariant (Refused Malformed) (vec_items c.push-in_default.new.self)
+    (asks (item_of c.in-Ok.read.0) c.in-Ok.ensures (question c.in-Ok.read.0 c.in_default.not-Offer c.in_default.not-Day)) c.in_ok-push-4.ensures.items
 
-pub loop-left-smaller-in-ok-push-2 : goal.loop-left-smaller-in-ok-push-2
-loop-left-smaller-in-ok-push-2 g c = item-shorter c.loop-left.left.now c.in-Ok.read.1.now (item_of c.in-Ok.read.0) c.in-Ok.ensures
+pub loop-left-smaller-in_ok-push-2 : goal.loop-left-smaller-in_ok-push-2
+loop-left-smaller-in_ok-push-2 g c = item-shorter c.loop-left.left.now c.in-Ok.read.1.now (item_of c.in-Ok.read.0) c.in-Ok.ensures
 
-pub loop-left-preserved-in-ok-push-2 : goal.loop-left-preserved-in-ok-push-2
-loop-left-preserved-in-ok-push-2 g c =
+pub loop-left-preserved-in_ok-push-2 : goal.loop-left-preserved-in_ok-push-2
+loop-left-preserved-in_ok-push-2 g c =
     let accepts = g.V.Verifier.accepts in
     let d = device_of accepts (holding_of c.args.device.now) in
     let here = device_of accepts (holding_of c.loop-left.device) in
@@ -44,8 +44,8 @@ loop-left-preserved-in-ok-push-2 g c =
     let said = vec_items c.loop-left.answers in
     let h : Held = record { paper = c.in-Offer.paper.now; signatures = c.in-Offer.signatures.items.now } in
     let s = holding_of c.offer.new.self in
-    so_far accepts d c.args.bytes.now said here left c.loop-left.invariant c.in-ok-answer.answer (vec_items c.push-in-Offer.new.self) (device_of accepts s) c.in-Ok.read.1.now
-    (λ more e runs. offers h s (c.in-Ok.ensures ∙ ap (λ (i : Item). Ok (item_of i, c.in-Ok.read.1.now)) c.in-Offer.is) c.in-ok-answer.ensures.law runs) c.in-ok-push-2.ensures.items
+    so_far accepts d c.args.bytes.now said here left c.loop-left.invariant c.in_ok-answer.answer (vec_items c.push-in-Offer.new.self) (device_of accepts s) c.in-Ok.read.1.now
+    (λ more e runs. offers h s (c.in-Ok.ensures ∙ ap (λ (i : Item). Ok (item_of i, c.in-Ok.read.1.now)) c.in-Offer.is) c.in_ok-answer.ensures.law runs) c.in_ok-push-2.ensures.items
 
 pub loop-left-preserved : goal.loop-left-preserved
 loop-left-preserved g c =
@@ -56,7 +56,7 @@ loop-left-preserved g c =
     let said = vec_items c.loop-left.answers in
     let s = holding_of c.begin-answer.new.self in
     so_far accepts d c.args.bytes.now said here left c.loop-left.invariant c.begin-answer.result (vec_items c.push-in-Day.new.self) (device_of accepts s) c.in-Ok.read.1.now
-    (λ more e runs. begins c.in-Day.day s (c.in-Ok.ensures ∙ ap (λ (i : Item). Ok (item_of i, c.in-Ok.read.1.now)) c.in-Day.is) (c.begin-answer.ensures.law accepts) runs) c.in-ok-push-3.ensures.items
+    (λ more e runs. begins c.in-Day.day s (c.in-Ok.ensures ∙ ap (λ (i : Item). Ok (item_of i, c.in-Ok.read.1.now)) c.in-Day.is) (c.begin-answer.ensures.law accepts) runs) c.in_ok-push-3.ensures.items
 
 pub returns : goal.returns
 returns g c =

@@ -16,9 +16,9 @@ returns g c =
     let m = c.args.message.now in
     let ss = signatures_of c.args.signatures in
     let q = quorum_of c.args.quorum in
-    let right = vec_items c.in-ok-right.right in
-    let chosen = c.in-ok-right.ensures in
-    let many : c.len.result ≡ length (counted q (signers_in accepts m ss)) = omega (arith, c.in-ok-right.right.ok, length-map right shown, chosen-many accepts m ss q (map shown right) chosen) in
+    let right = vec_items c.in_ok-right.right in
+    let chosen = c.in_ok-right.ensures in
+    let many : c.len.result ≡ length (counted q (signers_in accepts m ss)) = omega (arith, c.in_ok-right.right.ok, length-map right shown, chosen-many accepts m ss q (map shown right) chosen) in
     record {
       chosen = chosen;
       answer = cc (c.reaches-enough.ensures, many);

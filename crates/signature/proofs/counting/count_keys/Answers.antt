@@ -12,5 +12,5 @@ returns g c =
     let m = c.args.message.now in
     let ss = signatures_of c.args.signatures in
     let q = quorum_of c.args.quorum in
-    let none = ap (λ ks. length (firsts accepts m ss (once ks))) (nil_from_length c.loop-key.keys.now c.in-default.ensures.cases) in
+    let none = ap (λ ks. length (firsts accepts m ss (once ks))) (nil_from_length c.loop-key.keys.now c.in_default.ensures.cases) in
     omega (arith, c.loop-key.invariant.0, none, chosen-many accepts m ss q (firsts accepts m ss (once q.keys)) (chosen accepts m ss q))

@@ -7,12 +7,12 @@ use Rattle.signature.proofs.counting.first_right.Goals as goal
 pub loop-i-preserved : goal.loop-i-preserved
 loop-i-preserved g c =
     search-more signature_of (right_of g.V.Verifier.accepts c.args.message.now c.args.key.now) c.args.signatures.items.now c.loop-i.i c.loop-i.invariant [] c.loop-i-test.true
-    (sym c.is-new-and-right.ensures ∙ c.if-is-new-and-right.false)
+    (sym c.is_new_and_right.ensures ∙ c.if-is_new_and_right.false)
 
-pub returns-then-is-new-and-right : goal.returns-then-is-new-and-right
-returns-then-is-new-and-right g c =
+pub returns-then-is_new_and_right : goal.returns-then-is_new_and_right
+returns-then-is_new_and_right g c =
     search-found signature_of (right_of g.V.Verifier.accepts c.args.message.now c.args.key.now) c.args.signatures.items.now c.loop-i.i c.loop-i.invariant [] c.loop-i-test.true
-    (sym c.is-new-and-right.ensures ∙ c.if-is-new-and-right.true)
+    (sym c.is_new_and_right.ensures ∙ c.if-is_new_and_right.true)
 
 pub returns : goal.returns
 returns g c =

@@ -6,7 +6,7 @@ use Rattle.signature.proofs.counting.is_enough.Goals as goal
 
 pub returns : goal.returns
 returns g c =
-    let answer = c.reaches.ensures ∙ ap (λ n. leb c.args.quorum.threshold n) c.count-keys.ensures in
+    let answer = c.reaches.ensures ∙ ap (λ n. leb c.args.quorum.threshold n) c.count_keys.ensures in
     record {
       answer = answer;
       backed = λ t. enough-backed g.V.Verifier.accepts g.V.Verifier.signed g.met.V.Verifier.sound c.args.message.now (signatures_of c.args.signatures) (quorum_of c.args.quorum) (subst (λ (b : Bool). T b) answer t);

@@ -4,10 +4,10 @@ use Rattle.signature.proofs.stand_in.sign_stand_in.Goals as goal
 
 pub slice-bounds-signature-end-2 : goal.slice-bounds-signature-end-2
 slice-bounds-signature-end-2 c =
-    let l : length c.copy-from-slice.new.self ≡ 32 = c.copy-from-slice.ensures.len in
+    let l : length c.copy_from_slice.new.self ≡ 32 = c.copy_from_slice.ensures.len in
     simp length-append (omega arith)
 
 pub returns : goal.returns
 returns c =
-    halves c.copy-from-slice.new.self c.copy-from-slice-2.new.self _ c.copy-from-slice.ensures.len refl
+    halves c.copy_from_slice.new.self c.copy_from_slice-2.new.self _ c.copy_from_slice.ensures.len refl
     ∙ cc

@@ -28,13 +28,13 @@ pub loop-step-preserved : goal.loop-step-preserved
 loop-step-preserved c =
     let e = c.in-Some.ensures.cases.0 in
     let a = subst (λ (l : List (List ℕ)). All Two l) e c.loop-step.invariant.1 in
-    let n : big_endian c.in-Some.step.now ≡ c.from.result = two c.in-Some.step.now a.0 ∙ (sym c.from-be-bytes.ensures ∙ sym c.from.ensures) in (
-      more (vec_items c.loop-step.out) (vec_items c.push.new.self) (vec_items c.push-decimal.new.out) c.loop-step.mark c.from.result c.loop-step.left.now c.in-Some.step.now c.in-Some.rest.now e n
-          c.in-ok-push.ensures.items c.in-ok-push-decimal.ensures ∙ c.loop-step.invariant.0,
+    let n : big_endian c.in-Some.step.now ≡ c.from.result = two c.in-Some.step.now a.0 ∙ (sym c.from_be_bytes.ensures ∙ sym c.from.ensures) in (
+      more (vec_items c.loop-step.out) (vec_items c.push.new.self) (vec_items c.push_decimal.new.out) c.loop-step.mark c.from.result c.loop-step.left.now c.in-Some.step.now c.in-Some.rest.now e n
+          c.in_ok-push.ensures.items c.in_ok-push_decimal.ensures ∙ c.loop-step.invariant.0,
       a.1,
     )
 
 pub returns : goal.returns
 returns c =
-    let none = nil_from_length c.loop-step.left.now c.in-default.ensures.cases in
+    let none = nil_from_length c.loop-step.left.now c.in_default.ensures.cases in
     sym (append-nil (vec_items c.loop-step.out)) ∙ (ap (λ (l : List (List ℕ)). vec_items c.loop-step.out ++ steps_from c.loop-step.mark (steps_of l)) (sym none) ∙ c.loop-step.invariant.0)

@@ -30,21 +30,21 @@ one bs i rest key after e le h =
       inside = omega arith;
     }
 
-pub returns-in-default : goal.returns-in-default
-returns-in-default c =
-    sym (rising-fault (block 32) (λ (k : List ℕ). k) below (first_chunks 32 c.loop-done.done c.args.bytes.now) (option_map (λ x. x.now) c.loop-done.last) c.args.count c.loop-done.done c.loop-done.rest.now Malformed c.loop-done-test.true c.in-default.ensures
+pub returns-in_default : goal.returns-in_default
+returns-in_default c =
+    sym (rising-fault (block 32) (λ (k : List ℕ). k) below (first_chunks 32 c.loop-done.done c.args.bytes.now) (option_map (λ x. x.now) c.loop-done.last) c.args.count c.loop-done.done c.loop-done.rest.now Malformed c.loop-done-test.true c.in_default.ensures
     ∙ c.loop-done.invariant.0)
 
-pub returns-then-not-key-follows : goal.returns-then-not-key-follows
-returns-then-not-key-follows c =
-    sym (rising-order (block 32) (λ (k : List ℕ). k) below (first_chunks 32 c.loop-done.done c.args.bytes.now) (option_map (λ x. x.now) c.loop-done.last) c.args.count c.loop-done.done c.loop-done.rest.now c.in-Some.after.now c.in-Some.key.now c.loop-done-test.true c.in-Some.ensures (sym c.if-not-key-follows.ensures)
+pub returns-then-not-key_follows : goal.returns-then-not-key_follows
+returns-then-not-key_follows c =
+    sym (rising-order (block 32) (λ (k : List ℕ). k) below (first_chunks 32 c.loop-done.done c.args.bytes.now) (option_map (λ x. x.now) c.loop-done.last) c.args.count c.loop-done.done c.loop-done.rest.now c.in-Some.after.now c.in-Some.key.now c.loop-done-test.true c.in-Some.ensures (sym c.if-not-key_follows.ensures)
     ∙ c.loop-done.invariant.0)
 
 pub loop-done-preserved : goal.loop-done-preserved
 loop-done-preserved c =
     let o = one c.args.bytes.now c.loop-done.done c.loop-done.rest.now c.in-Some.key.now c.in-Some.after.now c.loop-done.invariant.1 c.loop-done.invariant.2 c.in-Some.ensures in (
       ap (λ l. extended l (read_rising (block 32) (λ (k : List ℕ). k) below (Some c.in-Some.key.now) (c.args.count - (c.loop-done.done + 1)) c.in-Some.after.now)) o.grows
-          ∙ rising-more (block 32) (λ (k : List ℕ). k) below (first_chunks 32 c.loop-done.done c.args.bytes.now) (option_map (λ x. x.now) c.loop-done.last) c.args.count c.loop-done.done c.loop-done.rest.now c.in-Some.after.now c.in-Some.key.now c.loop-done-test.true c.in-Some.ensures (sym c.if-not-key-follows.ensures)
+          ∙ rising-more (block 32) (λ (k : List ℕ). k) below (first_chunks 32 c.loop-done.done c.args.bytes.now) (option_map (λ x. x.now) c.loop-done.last) c.args.count c.loop-done.done c.loop-done.rest.now c.in-Some.after.now c.in-Some.key.now c.loop-done-test.true c.in-Some.ensures (sym c.if-not-key_follows.ensures)
           ∙ c.loop-done.invariant.0,
       o.left,
       o.inside,
@@ -61,6 +61,6 @@ returns c =
     let bs = c.args.bytes.now in
     let all : c.loop-done.done ≡ n = omega arith in
     let read = rising-done (block 32) (λ (k : List ℕ). k) below (first_chunks 32 c.loop-done.done bs) (option_map (λ x. x.now) c.loop-done.last) n c.loop-done.done c.loop-done.rest.now c.loop-done-test.false ∙ c.loop-done.invariant.0 in
-    let keys : c.as-chunks.result.0.now ≡ first_chunks 32 c.loop-done.done bs = c.as-chunks.ensures.front ∙ whole bs c.split-at.result.0.now n c.split-at.ensures.front c.split-at.ensures.front-len ∙ ap (λ m. first_chunks 32 m bs) (sym all) in
-    let rest : c.split-at.result.1.now ≡ c.loop-done.rest.now = c.split-at.ensures.back ∙ ap (λ m. drop (m * 32) bs) (sym all) ∙ sym c.loop-done.invariant.1 in
+    let keys : c.as_chunks.result.0.now ≡ first_chunks 32 c.loop-done.done bs = c.as_chunks.ensures.front ∙ whole bs c.split_at.result.0.now n c.split_at.ensures.front c.split_at.ensures.front_len ∙ ap (λ m. first_chunks 32 m bs) (sym all) in
+    let rest : c.split_at.result.1.now ≡ c.loop-done.rest.now = c.split_at.ensures.back ∙ ap (λ m. drop (m * 32) bs) (sym all) ∙ sym c.loop-done.invariant.1 in
     sym ((λ i. Ok (keys i, rest i)) ∙ read)

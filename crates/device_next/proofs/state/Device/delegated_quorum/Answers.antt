@@ -10,12 +10,12 @@ use Rattle.device_next.specs.declared.kept.Kept.{Kept}
 use Rattle.device_next.proofs.Stepping.{delegated-found}
 use Rattle.device_next.proofs.state.Device.delegated_quorum.Goals as goal
 
-pub returns-in-Some-quorum-in : goal.returns-in-Some-quorum-in
-returns-in-Some-quorum-in c =
+pub returns-in-Some-quorum_in : goal.returns-in-Some-quorum_in
+returns-in-Some-quorum_in c =
     let x = snapshot_in (holding_of c.args.self.now) in
     let t = targets_of c.targets-targets.result in
-    let found = delegated-found x c.args.role (held_of c.in-Some.kept.now) (map held_of c.next.new.self.rest.now) (quorum_of c.in-Some-quorum-in.quorum) t c.targets-targets.ensures
-    (sym (c.is-current.ensures ∙ ap (λ (o : Option Snapshot). current o t) c.snapshot.ensures) ∙ c.if-is-current.true) c.in-Some-quorum-in.ensures in
+    let found = delegated-found x c.args.role (held_of c.in-Some.kept.now) (map held_of c.next.new.self.rest.now) (quorum_of c.in-Some-quorum_in.quorum) t c.targets-targets.ensures
+    (sym (c.is_current.ensures ∙ ap (λ (o : Option Snapshot). current o t) c.snapshot.ensures) ∙ c.if-is_current.true) c.in-Some-quorum_in.ensures in
     sym (sym c.loop-kept.invariant ∙ ap (λ (l : List (Kept 4)). delegated_in x c.args.role (map held_of l)) c.in-Some.ensures.steps ∙ found)
 
 pub returns : goal.returns

@@ -17,4 +17,4 @@ returns-in-Some c =
     let paper = c.args.paper.now in
     let same = snapshot-judged met x _ (sha256 paper) _ (timestamp_in s) _ (snapshot_in s) _ s.today c.sha256-digest.ensures c.timestamp.ensures c.snapshot.ensures c.today-today.ensures in
     sym (fault-more (must met NotEnough ∷ must (named (λ _. sha256 paper) x (timestamp_in s)) NotNamed ∷ must (covers_kept x (snapshot_in s)) Regresses ∷ must (in_time s.today x.expires) Expired ∷ [])
-    (must (room_in (root_in s).snapshot paper s.notes) Full) c.in-Some.fault (sym same ∙ (sym c.snapshot-fault.ensures ∙ c.in-Some.is)))
+    (must (room_in (root_in s).snapshot paper s.notes) Full) c.in-Some.fault (sym same ∙ (sym c.snapshot_fault.ensures ∙ c.in-Some.is)))

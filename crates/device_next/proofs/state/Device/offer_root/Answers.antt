@@ -16,9 +16,9 @@ returns-in-Some g c =
     let h : Held = record { paper = c.args.paper.now; signatures = c.args.signatures.items.now } in
     let s = holding_of c.args.self.now in
     let r = root_of c.args.offered in
-    root-refused g.V.Verifier.accepts h r s (quorum_of c.root.result.root) (ap (λ (x : Root). x.root) c.root.ensures) (vec_items c.in-ok-old.old.signatures) (vec_items c.in-ok-own.own.signatures)
-    c.in-ok-old.ensures.chosen c.in-ok-own.ensures.chosen c.in-ok-old.old.enough c.in-ok-own.own.enough c.in-ok-old.ensures.answer c.in-ok-own.ensures.answer
-    c.in-Some.fault (sym c.judge-root.ensures ∙ c.in-Some.is)
+    root-refused g.V.Verifier.accepts h r s (quorum_of c.root.result.root) (ap (λ (x : Root). x.root) c.root.ensures) (vec_items c.in_ok-old.old.signatures) (vec_items c.in_ok-own.own.signatures)
+    c.in_ok-old.ensures.chosen c.in_ok-own.ensures.chosen c.in_ok-old.old.enough c.in_ok-own.own.enough c.in_ok-old.ensures.answer c.in_ok-own.ensures.answer
+    c.in-Some.fault (sym c.judge_root.ensures ∙ c.in-Some.is)
 
 pub returns-then-keeps : goal.returns-then-keeps
 returns-then-keeps g c =
@@ -26,13 +26,13 @@ returns-then-keeps g c =
     let s = holding_of c.args.self.now in
     let r = root_of c.args.offered in
     let same = sym (ap (λ (x : Root). stays x r) c.root-2.ensures) ∙ (sym c.stays-keeps.ensures ∙ c.if-keeps.true) in
-    root-taken g.V.Verifier.accepts h r s (quorum_of c.root.result.root) (ap (λ (x : Root). x.root) c.root.ensures) (vec_items c.in-ok-old.old.signatures) (vec_items c.in-ok-own.own.signatures)
-    c.in-ok-old.ensures.chosen c.in-ok-own.ensures.chosen c.in-ok-old.old.enough c.in-ok-own.own.enough c.in-ok-old.ensures.answer c.in-ok-own.ensures.answer
-    _ (sym c.judge-root.ensures ∙ c.in-default.is)
-    (holding-same _ _ _ _ _ _ _ _ _ _ _ c.in-ok-kept.ensures (kept_if (stays (root_in s) r) s.timestamp same) (kept_if (stays (root_in s) r) s.snapshot same) refl
-    (c.in-ok-note-root.ensures
+    root-taken g.V.Verifier.accepts h r s (quorum_of c.root.result.root) (ap (λ (x : Root). x.root) c.root.ensures) (vec_items c.in_ok-old.old.signatures) (vec_items c.in_ok-own.own.signatures)
+    c.in_ok-old.ensures.chosen c.in_ok-own.ensures.chosen c.in_ok-old.old.enough c.in_ok-own.own.enough c.in_ok-old.ensures.answer c.in_ok-own.ensures.answer
+    _ (sym c.judge_root.ensures ∙ c.in_default.is)
+    (holding-same _ _ _ _ _ _ _ _ _ _ _ c.in_ok-kept.ensures (kept_if (stays (root_in s) r) s.timestamp same) (kept_if (stays (root_in s) r) s.snapshot same) refl
+    (c.in_ok-note_root.ensures
     ∙ ap (λ (n : Note). s.notes ++ n ∷ note_for (record { quorum = c.args.offered.root; signatures = c.deref-2.result }) c.today-today.result h.paper ∷ []) (note-same _ _ _ _ _ _ _ (ap (λ (x : Root). x.root) c.root-3.ensures) c.today-today.ensures c.deref.ensures.value)
-    ∙ ap (λ (n : Note). s.notes ++ record { quorum = (root_in s).root; day = s.today; paper = h.paper; signatures = vec_items c.in-ok-old.old.signatures } ∷ n ∷ []) (note-same _ _ _ _ _ _ _ refl c.today-today.ensures c.deref-2.ensures.value)))
+    ∙ ap (λ (n : Note). s.notes ++ record { quorum = (root_in s).root; day = s.today; paper = h.paper; signatures = vec_items c.in_ok-old.old.signatures } ∷ n ∷ []) (note-same _ _ _ _ _ _ _ refl c.today-today.ensures c.deref-2.ensures.value)))
 
 pub returns : goal.returns
 returns g c =
@@ -40,10 +40,10 @@ returns g c =
     let s = holding_of c.args.self.now in
     let r = root_of c.args.offered in
     let same = sym (ap (λ (x : Root). stays x r) c.root-2.ensures) ∙ (sym c.stays-keeps.ensures ∙ c.if-keeps.false) in
-    root-taken g.V.Verifier.accepts h r s (quorum_of c.root.result.root) (ap (λ (x : Root). x.root) c.root.ensures) (vec_items c.in-ok-old.old.signatures) (vec_items c.in-ok-own.own.signatures)
-    c.in-ok-old.ensures.chosen c.in-ok-own.ensures.chosen c.in-ok-old.old.enough c.in-ok-own.own.enough c.in-ok-old.ensures.answer c.in-ok-own.ensures.answer
-    _ (sym c.judge-root.ensures ∙ c.in-default.is)
-    (holding-same _ _ _ _ _ _ _ _ _ _ _ c.in-ok-kept.ensures (not-kept (stays (root_in s) r) s.timestamp same) (not-kept (stays (root_in s) r) s.snapshot same) refl
-    (c.in-ok-note-root.ensures
+    root-taken g.V.Verifier.accepts h r s (quorum_of c.root.result.root) (ap (λ (x : Root). x.root) c.root.ensures) (vec_items c.in_ok-old.old.signatures) (vec_items c.in_ok-own.own.signatures)
+    c.in_ok-old.ensures.chosen c.in_ok-own.ensures.chosen c.in_ok-old.old.enough c.in_ok-own.own.enough c.in_ok-old.ensures.answer c.in_ok-own.ensures.answer
+    _ (sym c.judge_root.ensures ∙ c.in_default.is)
+    (holding-same _ _ _ _ _ _ _ _ _ _ _ c.in_ok-kept.ensures (not-kept (stays (root_in s) r) s.timestamp same) (not-kept (stays (root_in s) r) s.snapshot same) refl
+    (c.in_ok-note_root.ensures
     ∙ ap (λ (n : Note). s.notes ++ n ∷ note_for (record { quorum = c.args.offered.root; signatures = c.deref-2.result }) c.today-today.result h.paper ∷ []) (note-same _ _ _ _ _ _ _ (ap (λ (x : Root). x.root) c.root-3.ensures) c.today-today.ensures c.deref.ensures.value)
-    ∙ ap (λ (n : Note). s.notes ++ record { quorum = (root_in s).root; day = s.today; paper = h.paper; signatures = vec_items c.in-ok-old.old.signatures } ∷ n ∷ []) (note-same _ _ _ _ _ _ _ refl c.today-today.ensures c.deref-2.ensures.value)))
+    ∙ ap (λ (n : Note). s.notes ++ record { quorum = (root_in s).root; day = s.today; paper = h.paper; signatures = vec_items c.in_ok-old.old.signatures } ∷ n ∷ []) (note-same _ _ _ _ _ _ _ refl c.today-today.ensures c.deref-2.ensures.value)))

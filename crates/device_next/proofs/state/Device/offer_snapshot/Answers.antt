@@ -16,17 +16,17 @@ returns-in-Some g c =
     let h : Held = record { paper = c.args.paper.now; signatures = c.args.signatures.items.now } in
     let s = holding_of c.args.self.now in
     let x = snapshot_of c.args.offered in
-    step-refused g.V.Verifier.accepts h (root_in s).snapshot (quorum_of c.root.result.snapshot) (ap (λ (r : Root). r.snapshot) c.root.ensures) (vec_items c.in-ok-counted.counted.signatures)
-    c.in-ok-counted.ensures.chosen c.in-ok-counted.counted.enough c.in-ok-counted.ensures.answer (λ met. snapshot_faults met x h.paper s) (λ n. with_snapshot h x n s) s
-    c.in-Some.fault (sym c.judge-snapshot.ensures ∙ c.in-Some.is)
+    step-refused g.V.Verifier.accepts h (root_in s).snapshot (quorum_of c.root.result.snapshot) (ap (λ (r : Root). r.snapshot) c.root.ensures) (vec_items c.in_ok-counted.counted.signatures)
+    c.in_ok-counted.ensures.chosen c.in_ok-counted.counted.enough c.in_ok-counted.ensures.answer (λ met. snapshot_faults met x h.paper s) (λ n. with_snapshot h x n s) s
+    c.in-Some.fault (sym c.judge_snapshot.ensures ∙ c.in-Some.is)
 
 pub returns : goal.returns
 returns g c =
     let h : Held = record { paper = c.args.paper.now; signatures = c.args.signatures.items.now } in
     let s = holding_of c.args.self.now in
     let x = snapshot_of c.args.offered in
-    step-taken g.V.Verifier.accepts h (root_in s).snapshot (quorum_of c.root.result.snapshot) (ap (λ (r : Root). r.snapshot) c.root.ensures) (vec_items c.in-ok-counted.counted.signatures)
-    c.in-ok-counted.ensures.chosen c.in-ok-counted.counted.enough c.in-ok-counted.ensures.answer (λ met. snapshot_faults met x h.paper s) (λ n. with_snapshot h x n s) s
-    (record { quorum = (root_in s).snapshot; day = s.today; paper = h.paper; signatures = vec_items c.in-ok-counted.counted.signatures }) _ (sym c.judge-snapshot.ensures ∙ c.in-default.is) refl refl refl refl
-    (holding-same _ _ _ _ _ _ _ _ _ _ _ refl refl (ap Some c.in-ok-kept.ensures) (ap (map held_of) c.keep-listed.ensures ∙ map-kept held_of (listed x) (vec_items c.args.self.now.targets))
-    (c.in-ok-note.ensures ∙ ap (λ (n : Note). noted_in n s.notes) (note-same _ _ _ _ _ _ _ (ap (λ (r : Root). r.snapshot) c.root-2.ensures) c.today-today.ensures c.deref.ensures.value)))
+    step-taken g.V.Verifier.accepts h (root_in s).snapshot (quorum_of c.root.result.snapshot) (ap (λ (r : Root). r.snapshot) c.root.ensures) (vec_items c.in_ok-counted.counted.signatures)
+    c.in_ok-counted.ensures.chosen c.in_ok-counted.counted.enough c.in_ok-counted.ensures.answer (λ met. snapshot_faults met x h.paper s) (λ n. with_snapshot h x n s) s
+    (record { quorum = (root_in s).snapshot; day = s.today; paper = h.paper; signatures = vec_items c.in_ok-counted.counted.signatures }) _ (sym c.judge_snapshot.ensures ∙ c.in_default.is) refl refl refl refl
+    (holding-same _ _ _ _ _ _ _ _ _ _ _ refl refl (ap Some c.in_ok-kept.ensures) (ap (map held_of) c.keep_listed.ensures ∙ map-kept held_of (listed x) (vec_items c.args.self.now.targets))
+    (c.in_ok-note.ensures ∙ ap (λ (n : Note). noted_in n s.notes) (note-same _ _ _ _ _ _ _ (ap (λ (r : Root). r.snapshot) c.root-2.ensures) c.today-today.ensures c.deref.ensures.value)))

@@ -14,26 +14,26 @@ use Rattle.device_next.proofs.Sifting.{map-kept}
 use Rattle.device_next.proofs.Stepping.{step-refused, step-taken, note-same, holding-same}
 use Rattle.device_next.proofs.state.Device.offer_targets.Goals as goal
 
-pub returns-in-Some-judge-targets : goal.returns-in-Some-judge-targets
-returns-in-Some-judge-targets g c =
+pub returns-in-Some-judge_targets : goal.returns-in-Some-judge_targets
+returns-in-Some-judge_targets g c =
     let h : Held = record { paper = c.args.paper.now; signatures = c.args.signatures.items.now } in
     let s = holding_of c.args.self.now in
     let t = targets_of c.args.offered in
     let q = row_of c.in-Some.asked in
-    let asked : asked_for s t.role ≡ Some q = sym c.in-ok-asked.ensures ∙ ap (option_map row_of) c.in-Some.is in
-    let judged = c.judge-targets.ensures (asked ∙ ap Some (sym c.quorum-2.ensures)) in
-    subst (λ (o : Option Quorum). StepUnder o g.V.Verifier.accepts h t s (Refused c.in-Some-judge-targets.fault) s) (sym asked)
-    (step-refused g.V.Verifier.accepts h q (quorum_of c.quorum.result) c.quorum.ensures (vec_items c.in-ok-counted.counted.signatures)
-    c.in-ok-counted.ensures.chosen c.in-ok-counted.counted.enough c.in-ok-counted.ensures.answer (λ met. targets_faults (Some met) t h.paper s) (λ n. with_targets h t n s) s
-    c.in-Some-judge-targets.fault (sym judged ∙ c.in-Some-judge-targets.is))
+    let asked : asked_for s t.role ≡ Some q = sym c.in_ok-asked.ensures ∙ ap (option_map row_of) c.in-Some.is in
+    let judged = c.judge_targets.ensures (asked ∙ ap Some (sym c.quorum-2.ensures)) in
+    subst (λ (o : Option Quorum). StepUnder o g.V.Verifier.accepts h t s (Refused c.in-Some-judge_targets.fault) s) (sym asked)
+    (step-refused g.V.Verifier.accepts h q (quorum_of c.quorum.result) c.quorum.ensures (vec_items c.in_ok-counted.counted.signatures)
+    c.in_ok-counted.ensures.chosen c.in_ok-counted.counted.enough c.in_ok-counted.ensures.answer (λ met. targets_faults (Some met) t h.paper s) (λ n. with_targets h t n s) s
+    c.in-Some-judge_targets.fault (sym judged ∙ c.in-Some-judge_targets.is))
 
 -- room was made before
-pub returns-in-err-insert : goal.returns-in-err-insert
-returns-in-err-insert g c =
-    let full = c.in-err-insert.ensures.full in
-    let fewer = c.drop-role.ensures.room.0 in
-    let same = c.drop-role.ensures.room.1 in
-    let made = c.in-ok-reserve.ensures.ok in
+pub returns-in_err-insert : goal.returns-in_err-insert
+returns-in_err-insert g c =
+    let full = c.in_err-insert.ensures.full in
+    let fewer = c.drop_role.ensures.room.0 in
+    let same = c.drop_role.ensures.room.1 in
+    let made = c.in_ok-reserve.ensures.ok in
     absurd (omega (arith, full, fewer, same, made))
 
 pub returns : goal.returns
@@ -42,16 +42,16 @@ returns g c =
     let s = holding_of c.args.self.now in
     let t = targets_of c.args.offered in
     let q = row_of c.in-Some.asked in
-    let asked : asked_for s t.role ≡ Some q = sym c.in-ok-asked.ensures ∙ ap (option_map row_of) c.in-Some.is in
-    let judged = c.judge-targets.ensures (asked ∙ ap Some (sym c.quorum-2.ensures)) in
+    let asked : asked_for s t.role ≡ Some q = sym c.in_ok-asked.ensures ∙ ap (option_map row_of) c.in-Some.is in
+    let judged = c.judge_targets.ensures (asked ∙ ap Some (sym c.quorum-2.ensures)) in
     let after : Holding = holding_of (record { root = c.args.self.now.root; timestamp = c.args.self.now.timestamp; snapshot = c.args.self.now.snapshot; targets = c.insert.new.self; journal = c.note.new.self; calendar = c.args.self.now.calendar }) in
     subst (λ (o : Option Quorum). StepUnder o g.V.Verifier.accepts h t s Taken after) (sym asked)
-    (step-taken g.V.Verifier.accepts h q (quorum_of c.quorum.result) c.quorum.ensures (vec_items c.in-ok-counted.counted.signatures)
-    c.in-ok-counted.ensures.chosen c.in-ok-counted.counted.enough c.in-ok-counted.ensures.answer (λ met. targets_faults (Some met) t h.paper s) (λ n. with_targets h t n s) s
-    (record { quorum = q; day = s.today; paper = h.paper; signatures = vec_items c.in-ok-counted.counted.signatures }) after (sym judged ∙ c.in-default-judge-targets.is) refl refl refl refl
+    (step-taken g.V.Verifier.accepts h q (quorum_of c.quorum.result) c.quorum.ensures (vec_items c.in_ok-counted.counted.signatures)
+    c.in_ok-counted.ensures.chosen c.in_ok-counted.counted.enough c.in_ok-counted.ensures.answer (λ met. targets_faults (Some met) t h.paper s) (λ n. with_targets h t n s) s
+    (record { quorum = q; day = s.today; paper = h.paper; signatures = vec_items c.in_ok-counted.counted.signatures }) after (sym judged ∙ c.in_default-judge_targets.is) refl refl refl refl
     (holding-same _ _ _ _ _ _ _ _ _ _ _ refl refl refl
-    (ap (map held_of) c.in-ok-insert.ensures.items
-    ∙ ap (λ (l : List (Kept 4)). held_of c.in-ok-kept.kept ∷ map held_of l) (c.drop-role.ensures.items ∙ ap (filter (λ (k : Kept 4). others t.role (held_of k))) c.reserve.ensures.items)
-    ∙ ap (λ (x : Held). x ∷ map held_of (filter (λ (k : Kept 4). others t.role (held_of k)) (vec_items c.args.self.now.targets))) c.in-ok-kept.ensures
+    (ap (map held_of) c.in_ok-insert.ensures.items
+    ∙ ap (λ (l : List (Kept 4)). held_of c.in_ok-kept.kept ∷ map held_of l) (c.drop_role.ensures.items ∙ ap (filter (λ (k : Kept 4). others t.role (held_of k))) c.reserve.ensures.items)
+    ∙ ap (λ (x : Held). x ∷ map held_of (filter (λ (k : Kept 4). others t.role (held_of k)) (vec_items c.args.self.now.targets))) c.in_ok-kept.ensures
     ∙ ap (λ (l : List Held). h ∷ l) (map-kept held_of (others t.role) (vec_items c.args.self.now.targets)))
-    (c.in-ok-note.ensures ∙ ap (λ (n : Note). noted_in n s.notes) (note-same _ _ _ _ _ _ _ c.quorum-quorum.ensures c.today-today.ensures c.deref.ensures.value))))
+    (c.in_ok-note.ensures ∙ ap (λ (n : Note). noted_in n s.notes) (note-same _ _ _ _ _ _ _ c.quorum-quorum.ensures c.today-today.ensures c.deref.ensures.value))))

@@ -15,17 +15,17 @@ returns-in-Some g c =
     let h : Held = record { paper = c.args.paper.now; signatures = c.args.signatures.items.now } in
     let s = holding_of c.args.self.now in
     let t = timestamp_of c.args.offered in
-    step-refused g.V.Verifier.accepts h (root_in s).timestamp (quorum_of c.root.result.timestamp) (ap (λ (r : Root). r.timestamp) c.root.ensures) (vec_items c.in-ok-counted.counted.signatures)
-    c.in-ok-counted.ensures.chosen c.in-ok-counted.counted.enough c.in-ok-counted.ensures.answer (λ met. timestamp_faults met t h.paper s) (λ n. with_timestamp h n s) s
-    c.in-Some.fault (sym c.judge-timestamp.ensures ∙ c.in-Some.is)
+    step-refused g.V.Verifier.accepts h (root_in s).timestamp (quorum_of c.root.result.timestamp) (ap (λ (r : Root). r.timestamp) c.root.ensures) (vec_items c.in_ok-counted.counted.signatures)
+    c.in_ok-counted.ensures.chosen c.in_ok-counted.counted.enough c.in_ok-counted.ensures.answer (λ met. timestamp_faults met t h.paper s) (λ n. with_timestamp h n s) s
+    c.in-Some.fault (sym c.judge_timestamp.ensures ∙ c.in-Some.is)
 
 pub returns : goal.returns
 returns g c =
     let h : Held = record { paper = c.args.paper.now; signatures = c.args.signatures.items.now } in
     let s = holding_of c.args.self.now in
     let t = timestamp_of c.args.offered in
-    step-taken g.V.Verifier.accepts h (root_in s).timestamp (quorum_of c.root.result.timestamp) (ap (λ (r : Root). r.timestamp) c.root.ensures) (vec_items c.in-ok-counted.counted.signatures)
-    c.in-ok-counted.ensures.chosen c.in-ok-counted.counted.enough c.in-ok-counted.ensures.answer (λ met. timestamp_faults met t h.paper s) (λ n. with_timestamp h n s) s
-    (record { quorum = (root_in s).timestamp; day = s.today; paper = h.paper; signatures = vec_items c.in-ok-counted.counted.signatures }) _ (sym c.judge-timestamp.ensures ∙ c.in-default.is) refl refl refl refl
-    (holding-same _ _ _ _ _ _ _ _ _ _ _ refl (ap Some c.in-ok-kept.ensures) refl refl
-    (c.in-ok-note.ensures ∙ ap (λ (n : Note). noted_in n s.notes) (note-same _ _ _ _ _ _ _ (ap (λ (r : Root). r.timestamp) c.root-2.ensures) c.today-today.ensures c.deref.ensures.value)))
+    step-taken g.V.Verifier.accepts h (root_in s).timestamp (quorum_of c.root.result.timestamp) (ap (λ (r : Root). r.timestamp) c.root.ensures) (vec_items c.in_ok-counted.counted.signatures)
+    c.in_ok-counted.ensures.chosen c.in_ok-counted.counted.enough c.in_ok-counted.ensures.answer (λ met. timestamp_faults met t h.paper s) (λ n. with_timestamp h n s) s
+    (record { quorum = (root_in s).timestamp; day = s.today; paper = h.paper; signatures = vec_items c.in_ok-counted.counted.signatures }) _ (sym c.judge_timestamp.ensures ∙ c.in_default.is) refl refl refl refl
+    (holding-same _ _ _ _ _ _ _ _ _ _ _ refl (ap Some c.in_ok-kept.ensures) refl refl
+    (c.in_ok-note.ensures ∙ ap (λ (n : Note). noted_in n s.notes) (note-same _ _ _ _ _ _ _ (ap (λ (r : Root). r.timestamp) c.root-2.ensures) c.today-today.ensures c.deref.ensures.value)))

@@ -4,4 +4,4 @@ use Rattle.digest.proofs.block.State.round.Goals as goal
 
 pub returns : goal.returns
 unfolding round hash_of
-returns c = simp (c.rotate-right.ensures, c.rotate-right-2.ensures, c.rotate-right-3.ensures, c.rotate-right-4.ensures, c.rotate-right-5.ensures, c.rotate-right-6.ensures)
+returns c = simp (c.rotate_right.ensures, c.rotate_right-2.ensures, c.rotate_right-3.ensures, c.rotate_right-4.ensures, c.rotate_right-5.ensures, c.rotate_right-6.ensures)

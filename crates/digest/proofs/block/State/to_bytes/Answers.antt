@@ -17,9 +17,9 @@ unfolding hash_of
 loop-i-preserved c =
     let ws = words_in (hash_of c.args.self) in
     let i = c.loop-i.i in
-    let e : c.to-be-bytes.result ≡ bytes_of 4 (get_or ws i 0) = simp div-one c.to-be-bytes.ensures in
+    let e : c.to_be_bytes.result ≡ bytes_of 4 (get_or ws i 0) = simp div-one c.to_be_bytes.ensures in
     word-put ws c.loop-i.bytes i (4 * i + 4 - 4 * i) c.loop-i.invariant.0 c.loop-i-test.true (omega arith)
-    (c.copy-from-slice.ensures.after ∙ e) c.loop-i.invariant.1
+    (c.copy_from_slice.ensures.after ∙ e) c.loop-i.invariant.1
 
 pub returns : goal.returns
 unfolding digest hash_of

@@ -8,5 +8,5 @@ pub returns : goal.returns
 unfolding sha256
 returns c so_far h =
     let e = c.padding-len.ensures.bytes ∙ ap padding h.count ∙ padding-modulo (length so_far) in
-    c.to-bytes.ensures
+    c.to_bytes.ensures
     ∙ ap digest ((c.update.ensures so_far h).hash ∙ ap (λ (v : List ℕ). absorbed initial (blocks (so_far ++ v))) e)

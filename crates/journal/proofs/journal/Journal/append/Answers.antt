@@ -5,25 +5,25 @@ use Rattle.journal.specs.declared.entry.Entry.{Entry}
 use Rattle.journal.proofs.Placing.{notes-kept, pushed-first, notes-push}
 use Rattle.journal.proofs.journal.Journal.append.Goals as goal
 
-pub returns-in-err-entry : goal.returns-in-err-entry
-returns-in-err-entry c =
-    let kept = notes-kept c.args.self.now c.place-for.new.self (quorum_of c.args.backing.quorum) c.in-ok-at.at c.in-ok-at.ensures in
+pub returns-in_err-entry : goal.returns-in_err-entry
+returns-in_err-entry c =
+    let kept = notes-kept c.args.self.now c.place_for.new.self (quorum_of c.args.backing.quorum) c.in_ok-at.at c.in_ok-at.ensures in
     search rules
 
 pub invariant-of-self : goal.invariant-of-self
 invariant-of-self c =
-    let k = c.place-for.new.self in
+    let k = c.place_for.new.self in
     let rows = rows_of (vec_items k.rows) in
-    (subst (λ (l : List Entry). all_first rows l ≡ true) (sym c.push.ensures.items) (pushed-first (is_ok c.push.result) rows (vec_items k.entries) c.in-ok-entry.entry c.in-ok-at.at k.placed c.in-ok-at.ensures.placed c.in-ok-entry.ensures.place), tt)
+    (subst (λ (l : List Entry). all_first rows l ≡ true) (sym c.push.ensures.items) (pushed-first (is_ok c.push.result) rows (vec_items k.entries) c.in_ok-entry.entry c.in_ok-at.at k.placed c.in_ok-at.ensures.placed c.in_ok-entry.ensures.place), tt)
 
-pub returns-in-err-push : goal.returns-in-err-push
-returns-in-err-push c =
-    let k = c.place-for.new.self in
+pub returns-in_err-push : goal.returns-in_err-push
+returns-in_err-push c =
+    let k = c.place_for.new.self in
     let kept =
-    ap (λ (l : List Entry). map (note_of (rows_of (vec_items k.rows))) l) c.in-err-push.ensures.items
-    ∙ notes-kept c.args.self.now k (quorum_of c.args.backing.quorum) c.in-ok-at.at c.in-ok-at.ensures in
+    ap (λ (l : List Entry). map (note_of (rows_of (vec_items k.rows))) l) c.in_err-push.ensures.items
+    ∙ notes-kept c.args.self.now k (quorum_of c.args.backing.quorum) c.in_ok-at.at c.in_ok-at.ensures in
     search rules
 
 pub returns : goal.returns
 returns c =
-    notes-push c.args.self.now c.place-for.new.self (quorum_of c.args.backing.quorum) c.in-ok-at.at c.args.day c.args.paper.now c.args.backing.signatures.now c.in-ok-entry.entry _ c.in-ok-at.ensures c.in-ok-entry.ensures c.in-ok-push.ensures.items
+    notes-push c.args.self.now c.place_for.new.self (quorum_of c.args.backing.quorum) c.in_ok-at.at c.args.day c.args.paper.now c.args.backing.signatures.now c.in_ok-entry.entry _ c.in_ok-at.ensures c.in_ok-entry.ensures c.in_ok-push.ensures.items

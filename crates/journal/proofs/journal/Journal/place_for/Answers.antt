@@ -5,17 +5,17 @@ use Rattle.journal.specs.declared.row.Row.{Row}
 use Rattle.journal.proofs.Placing.{placed-old, placed-new, grown-first}
 use Rattle.journal.proofs.journal.Journal.place_for.Goals as goal
 
-pub returns-then-at-as-slice : goal.returns-then-at-as-slice
-returns-then-at-as-slice c =
-    placed-old c.args.self.now (quorum_of c.args.quorum) c.place-of-at.result c.place-of-at.ensures
-    (subst (λ (l : List Row). c.place-of-at.result < length l) c.as-slice.ensures.value c.if-at-as-slice.true)
+pub returns-then-at-as_slice : goal.returns-then-at-as_slice
+returns-then-at-as_slice c =
+    placed-old c.args.self.now (quorum_of c.args.quorum) c.place_of-at.result c.place_of-at.ensures
+    (subst (λ (l : List Row). c.place_of-at.result < length l) c.as_slice.ensures.value c.if-at-as_slice.true)
 
 pub invariant-of-self : goal.invariant-of-self
 invariant-of-self c =
     let j = c.args.self.now in
-    (subst (λ (l : List Row). all_first (rows_of l) (vec_items j.entries) ≡ true) (sym c.push.ensures.items) (grown-first (is_ok c.push.result) (vec_items j.rows) c.in-ok-row.row (vec_items j.entries) j.placed), tt)
+    (subst (λ (l : List Row). all_first (rows_of l) (vec_items j.entries) ≡ true) (sym c.push.ensures.items) (grown-first (is_ok c.push.result) (vec_items j.rows) c.in_ok-row.row (vec_items j.entries) j.placed), tt)
 
 pub returns : goal.returns
 returns c =
-    placed-new c.args.self.now _ (quorum_of c.args.quorum) c.place-of-at.result c.in-ok-row.row c.place-of-at.ensures
-    (subst (λ (l : List Row). length l ≤ c.place-of-at.result) c.as-slice.ensures.value c.if-at-as-slice.false) c.in-ok-row.ensures c.in-ok-push.ensures.items refl
+    placed-new c.args.self.now _ (quorum_of c.args.quorum) c.place_of-at.result c.in_ok-row.row c.place_of-at.ensures
+    (subst (λ (l : List Row). length l ≤ c.place_of-at.result) c.as_slice.ensures.value c.if-at-as_slice.false) c.in_ok-row.ensures c.in_ok-push.ensures.items refl

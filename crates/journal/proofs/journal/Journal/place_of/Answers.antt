@@ -14,17 +14,17 @@ loop-place-preserved c =
     let r = c.row-item.result in
     let e = c.deref-row-items.ensures.value in
     place-more q rs _ i c.loop-place.invariant r (subst (λ (l : List Row). i < length l) e c.loop-place-test.true) (c.row-item.is ∙ ap (λ (l : List Row). get_or l i r) e)
-    (sym (c.same-quorum.ensures ∙ ap (λ (k : Quorum). same_quorums q k) c.quorum.ensures) ∙ c.if-same-quorum.false)
+    (sym (c.same_quorum.ensures ∙ ap (λ (k : Quorum). same_quorums q k) c.quorum.ensures) ∙ c.if-same_quorum.false)
 
-pub returns-then-same-quorum : goal.returns-then-same-quorum
-returns-then-same-quorum c =
+pub returns-then-same_quorum : goal.returns-then-same_quorum
+returns-then-same_quorum c =
     let q = quorum_of c.args.quorum in
     let rs = vec_items c.args.self.now.rows in
     let i = c.loop-place.place in
     let r = c.row-item.result in
     let e = c.deref-row-items.ensures.value in
     place_found q rs _ i c.loop-place.invariant r (subst (λ (l : List Row). i < length l) e c.loop-place-test.true) (c.row-item.is ∙ ap (λ (l : List Row). get_or l i r) e)
-    (sym (c.same-quorum.ensures ∙ ap (λ (k : Quorum). same_quorums q k) c.quorum.ensures) ∙ c.if-same-quorum.true)
+    (sym (c.same_quorum.ensures ∙ ap (λ (k : Quorum). same_quorums q k) c.quorum.ensures) ∙ c.if-same_quorum.true)
 
 pub returns : goal.returns
 returns c =

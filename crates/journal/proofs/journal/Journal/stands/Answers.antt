@@ -10,6 +10,6 @@ use Rattle.journal.proofs.journal.Journal.stands.Goals as goal
 pub returns : goal.returns
 returns c =
     let j = c.args.self.now in
-    c.has-at.ensures
-    ∙ ap (λ (i : ℕ). any (λ (e : Entry). eqb i e.at && same_list c.args.paper.now (vec_items e.paper)) (vec_items j.entries)) c.place-of.ensures
+    c.has_at.ensures
+    ∙ ap (λ (i : ℕ). any (λ (e : Entry). eqb i e.at && same_list c.args.paper.now (vec_items e.paper)) (vec_items j.entries)) c.place_of.ensures
     ∙ stands-places (rows_of (vec_items j.rows)) (quorum_of c.args.quorum) c.args.paper.now (vec_items j.entries) j.placed

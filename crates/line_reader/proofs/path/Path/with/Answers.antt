@@ -24,6 +24,6 @@ returns-then-self-ge8 c = omega (arith, long c.args.self.steps c.args.self.count
 
 pub returns : goal.returns
 returns c = (
-  more c.args.self.steps c.args.self.count c.args.step c.to-be-bytes.result (omega (arith, c.if-self-ge8.false)) (of-bytes c.args.step c.to-be-bytes.result c.ranges.step.fits c.to-be-bytes.ensures),
+  more c.args.self.steps c.args.self.count c.args.step c.to_be_bytes.result (omega (arith, c.if-self-ge8.false)) (of-bytes c.args.step c.to_be_bytes.result c.ranges.step.fits c.to_be_bytes.ensures),
   omega (arith, short c.args.self.steps c.args.self.count (omega arith) c.if-self-ge8.false, c.if-self-ge8.false),
 )
