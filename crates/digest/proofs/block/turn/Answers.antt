@@ -7,8 +7,8 @@ pub returns : goal.returns
 returns g c =
     let low = c.args.low in
     let high = c.args.high in
-    let hl : length low ≡ 8 = search c.well-formed.1.0 in
-    let hh : length high ≡ 8 = search c.well-formed.1.1.0 in
+    let hl : length low ≡ 8 = search c.well_formed.1.0 in
+    let hh : length high ≡ 8 = search c.well_formed.1.1.0 in
     let n : g.row.N < 4 = c.requires in
     let next : List ℕ =
     c.word-w0.result ∷ c.word-w1.result ∷ c.word-w2.result ∷ c.word-w3.result ∷

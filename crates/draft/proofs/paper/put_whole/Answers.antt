@@ -9,7 +9,7 @@ use Rattle.draft.proofs.paper.put_whole.Goals as goal
 
 pub returns-in_err-rest : goal.returns-in_err-rest
 returns-in_err-rest c =
-    whole-stopped c.args.text.now (vec_items c.args.out.now) (vec_items c.put_paper.new.out) c.from-residual.result c.in_err-rest.field-0.0 c.from-residual.ensures.1 (λ b e.
+    whole-stopped c.args.text.now (vec_items c.args.out.now) (vec_items c.put_paper.new.out) c.from_residual.result c.in_err-rest.field-0.0 c.from_residual.ensures.1 (λ b e.
     text-bad c.args.text.now b (part-bad paper bytes_of_paper c.args.text.now (vec_items c.args.out.now) (vec_items c.put_paper.new.out) c.in_err-rest.field-0.0 c.in_err-rest.ensures b e))
 
 pub returns-then-not-is_empty : goal.returns-then-not-is_empty

@@ -10,7 +10,7 @@ use Rattle.draft_list.proofs.list.put_files.Goals as goal
 
 pub returns-in_err-path : goal.returns-in_err-path
 returns-in_err-path c =
-    stopped (files c.args.count) (bytes.files c.args.count).write c.args.text.now (vec_items c.args.out.now) (vec_items c.put_file.new.out) c.from-residual.result c.in_err-path.field-0.0 c.from-residual.ensures.1 (λ b e.
+    stopped (files c.args.count) (bytes.files c.args.count).write c.args.text.now (vec_items c.args.out.now) (vec_items c.put_file.new.out) c.from_residual.result c.in_err-path.field-0.0 c.from_residual.ensures.1 (λ b e.
     chain-bad file (λ (f : File). f.path) (bytes.file).write c.args.text.now (vec_items c.args.out.now) c.args.count c.loop-done.rest.now (vec_items c.loop-done.out) (option_map path_of c.loop-done.last) c.loop-done.done c.loop-done.invariant b c.loop-done-test.true
     (item-bad (file (option_map path_of c.loop-done.last)) (bytes.file).write c.loop-done.rest.now (vec_items c.loop-done.out) (vec_items c.put_file.new.out) (λ f p. f.path ≡ path_of p) c.in_err-path.field-0.0 c.in_err-path.ensures b e))
 

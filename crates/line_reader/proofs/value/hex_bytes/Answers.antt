@@ -24,7 +24,7 @@ returns-in_default c = λ x a e.
 
 pub loop-i-preserved : goal.loop-i-preserved
 loop-i-preserved c = (
-  hex-more c.loop-i.bytes c.as_chunks.result.0.now c.loop-i.i c.in-Some.byte (omega (arith, c.loop-i.invariant.1, c.loop-i-test.true)) (omega (arith, c.as_chunks.ensures.front-len, c.if-digits-ne64.false, c.loop-i-test.true)) c.loop-i.invariant.0 c.in-Some.ensures.0,
+  hex-more c.loop-i.bytes c.as_chunks.result.0.now c.loop-i.i c.in-Some.byte (omega (arith, c.loop-i.invariant.1, c.loop-i-test.true)) (omega (arith, c.as_chunks.ensures.front_len, c.if-digits-ne64.false, c.loop-i-test.true)) c.loop-i.invariant.0 c.in-Some.ensures.0,
   length-set c.loop-i.bytes c.loop-i.i c.in-Some.byte ∙ c.loop-i.invariant.1,
   All-set (λ b. b < 256) c.loop-i.bytes c.loop-i.i c.in-Some.byte c.in-Some.ensures.1 c.loop-i.invariant.2,
 )
@@ -35,6 +35,6 @@ returns c =
     let n : length bytes ≡ 32 = c.loop-i.invariant.1 in
     let half : length c.args.digits.now / 2 ≡ length bytes = omega (arith, c.if-digits-ne64.false, n) in
     let all : map hex_of_byte bytes ≡ first_chunks 2 (length bytes) c.args.digits.now =
-    sym (ap (map hex_of_byte) (take_all c.loop-i.i bytes (omega (arith, n, c.loop-i-test.false)))) ∙ c.loop-i.invariant.0 ∙ take_all c.loop-i.i c.as_chunks.result.0.now (omega (arith, c.as_chunks.ensures.front-len, half, n, c.loop-i-test.false))
+    sym (ap (map hex_of_byte) (take_all c.loop-i.i bytes (omega (arith, n, c.loop-i-test.false)))) ∙ c.loop-i.invariant.0 ∙ take_all c.loop-i.i c.as_chunks.result.0.now (omega (arith, c.as_chunks.ensures.front_len, half, n, c.loop-i-test.false))
     ∙ c.as_chunks.ensures.front ∙ ap (λ m. first_chunks 2 m c.args.digits.now) half in
     (hex-pairs bytes c.args.digits.now (omega (arith, c.if-digits-ne64.false, n)) all, and_from (eqb (length bytes) 32) (all_below 256 bytes) (eq-eqb (length bytes) 32 n) (below_all 256 bytes c.loop-i.invariant.2))

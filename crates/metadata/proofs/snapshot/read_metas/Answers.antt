@@ -11,7 +11,7 @@ loop-done-init c = ([], rising-start meta (λ (x : Meta). x.role) ltb c.args.cou
 
 pub returns-in_err-meta : goal.returns-in_err-meta
 returns-in_err-meta c =
-    let p = err_from_is_err_and c.from-residual.result c.from-residual.ensures.1 in
+    let p = err_from_is_err_and c.from_residual.result c.from_residual.ensures.1 in
     rw (p.1, p.2) (sym (rising-fault meta (λ (x : Meta). x.role) ltb c.loop-done.invariant.0 c.loop-done.last c.args.count c.loop-done.done c.loop-done.rest.now c.in_err-meta.field-0.0 c.loop-done-test.true c.in_err-meta.ensures ∙ c.loop-done.invariant.1))
 
 pub returns-then-not-role_follows : goal.returns-then-not-role_follows

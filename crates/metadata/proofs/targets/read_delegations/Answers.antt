@@ -11,7 +11,7 @@ loop-done-init c = ([], rising-start delegation (λ (x : Delegation). x) (λ _ _
 
 pub returns-in_err-after : goal.returns-in_err-after
 returns-in_err-after c =
-    let p = err_from_is_err_and c.from-residual.result c.from-residual.ensures.1 in
+    let p = err_from_is_err_and c.from_residual.result c.from_residual.ensures.1 in
     rw (p.1, p.2) (sym (rising-fault delegation (λ (x : Delegation). x) (λ _ _. true) c.loop-done.invariant.0 None c.args.count c.loop-done.done c.loop-done.rest.now c.in_err-after.field-0.0 c.loop-done-test.true c.in_err-after.ensures ∙ c.loop-done.invariant.1))
 
 pub loop-done-preserved : goal.loop-done-preserved

@@ -13,7 +13,7 @@ loop-done-init c = ([], rising-start file (λ (x : File). x.path) below c.args.c
 
 pub returns-in_err-file : goal.returns-in_err-file
 returns-in_err-file c =
-    let p = err_from_is_err_and c.from-residual.result c.from-residual.ensures.1 in
+    let p = err_from_is_err_and c.from_residual.result c.from_residual.ensures.1 in
     rw (p.1, p.2) (sym (rising-fault file (λ (x : File). x.path) below c.loop-done.invariant.0 (option_map (λ p. steps_of p.now) c.loop-done.last) c.args.count c.loop-done.done c.loop-done.rest.now c.in_err-file.field-0.0 c.loop-done-test.true c.in_err-file.ensures ∙ c.loop-done.invariant.1))
 
 pub returns-then-not-path_follows : goal.returns-then-not-path_follows

@@ -8,6 +8,6 @@ returns-then-rest-size c = part-short c.args.bytes.now c.in-Some.rest.now c.in-S
 
 pub returns : goal.returns
 returns c =
-    let items = c.as_chunks.ensures.front ∙ chunks-whole c.in-Some.rest.now c.split_at.result.0.now c.in-Some.count c.split_at.ensures.front c.split_at.ensures.front-len in
+    let items = c.as_chunks.ensures.front ∙ chunks-whole c.in-Some.rest.now c.split_at.result.0.now c.in-Some.count c.split_at.ensures.front c.split_at.ensures.front_len in
     part-long c.args.bytes.now c.in-Some.rest.now c.in-Some.count c.in-Some.ensures c.if-rest-size.false
     ∙ (λ i. Ok (map signature_of (sym items i), sym c.split_at.ensures.back i))

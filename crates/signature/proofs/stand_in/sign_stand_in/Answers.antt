@@ -2,8 +2,8 @@ use Rattle.std.proofs.Common.{◌≡◌, length, refl, ◌∙◌, arith, length-
 use Rattle.signature.proofs.Halves.{halves}
 use Rattle.signature.proofs.stand_in.sign_stand_in.Goals as goal
 
-pub slice-bounds-signature-end-2 : goal.slice-bounds-signature-end-2
-slice-bounds-signature-end-2 c =
+pub slice_bounds-signature-end-2 : goal.slice_bounds-signature-end-2
+slice_bounds-signature-end-2 c =
     let l : length c.copy_from_slice.new.self ≡ 32 = c.copy_from_slice.ensures.len in
     simp length-append (omega arith)
 

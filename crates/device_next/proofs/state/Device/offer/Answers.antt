@@ -16,7 +16,7 @@ returns g c =
     let j = c.args.self.now.journal in
     let s = holding_of c.args.self.now in
     let then = holding_of c.take.new.self in
-    let bytes : Bytes h.paper = All-from_get_or (λ (b : ℕ). b < 256) h.paper 0 (λ i _. omega (arith, c.type-inv.paper i)) in
+    let bytes : Bytes h.paper = All-from_get_or (λ (b : ℕ). b < 256) h.paper 0 (λ i _. omega (arith, c.type_inv.paper i)) in
     let law = MatchResult-weaker c.take.result c.take.ensures (λ a k. offer-modelled accepts h s a then bytes (clean (rows_of (vec_items j.rows)) (vec_items j.entries)) k) (λ _ e. ap (device_of accepts) e) in
     record {
       bytes = c.take.ensures;

@@ -9,8 +9,8 @@ use Rattle.digest.proofs.block.State.to_bytes.Goals as goal
 pub loop-i-init : goal.loop-i-init
 loop-i-init c = (refl, refl)
 
-pub slice-bounds-bytes-end : goal.slice-bounds-bytes-end
-slice-bounds-bytes-end c = omega arith
+pub slice_bounds-bytes-end : goal.slice_bounds-bytes-end
+slice_bounds-bytes-end c = omega arith
 
 pub loop-i-preserved : goal.loop-i-preserved
 unfolding hash_of

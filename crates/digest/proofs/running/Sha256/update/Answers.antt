@@ -14,7 +14,7 @@ returns c so_far h =
     let s = c.args.self.now in
     let l : length s.tail ≡ 64 = search rules in
     held-full s so_far c.args.part.now h l
-    c.split_at.result.0.now c.split_at.result.1.now c.split_at.ensures.by_index.0 c.split_at.ensures.front-len
+    c.split_at.result.0.now c.split_at.result.1.now c.split_at.ensures.by_index.0 c.split_at.ensures.front_len
     c.copy_from_slice-2.ensures.after c.absorb-self.ensures
     c.as_chunks.ensures.front c.absorb-self-2.result c.absorb-self-2.ensures
     (c.copy_from_slice-3.ensures.after ∙ c.as_chunks.ensures.back) _

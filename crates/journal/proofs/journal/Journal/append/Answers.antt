@@ -10,8 +10,8 @@ returns-in_err-entry c =
     let kept = notes-kept c.args.self.now c.place_for.new.self (quorum_of c.args.backing.quorum) c.in_ok-at.at c.in_ok-at.ensures in
     search rules
 
-pub invariant-of-self : goal.invariant-of-self
-invariant-of-self c =
+pub invariant_of-self : goal.invariant_of-self
+invariant_of-self c =
     let k = c.place_for.new.self in
     let rows = rows_of (vec_items k.rows) in
     (subst (λ (l : List Entry). all_first rows l ≡ true) (sym c.push.ensures.items) (pushed-first (is_ok c.push.result) rows (vec_items k.entries) c.in_ok-entry.entry c.in_ok-at.at k.placed c.in_ok-at.ensures.placed c.in_ok-entry.ensures.place), tt)

@@ -33,8 +33,8 @@ returns-in_err-reserve c =
     ∙ notes-kept c.args.self.now c.place_for.new.self (quorum_of c.args.old.quorum) c.in_ok-place.place c.in_ok-place.ensures in
     search rules
 
-pub invariant-of-self-2 : goal.invariant-of-self-2
-invariant-of-self-2 c =
+pub invariant_of-self-2 : goal.invariant_of-self-2
+invariant_of-self-2 c =
     let l = c.place_for-2.new.self in
     let both = placed-both c.args.self.now c.place_for.new.self l (quorum_of c.args.old.quorum) (quorum_of c.args.own.quorum) c.in_ok-place.place c.in_ok-other.other c.in_ok-place.ensures c.in_ok-other.ensures in (
       two-first (rows_of (vec_items l.rows)) (vec_items l.entries) (vec_items c.push_reserved-2.new.self) c.in_ok-first.first c.in_ok-second.second c.in_ok-place.place c.in_ok-other.other l.placed both.placed

@@ -10,8 +10,8 @@ returns-then-at-as_slice c =
     placed-old c.args.self.now (quorum_of c.args.quorum) c.place_of-at.result c.place_of-at.ensures
     (subst (λ (l : List Row). c.place_of-at.result < length l) c.as_slice.ensures.value c.if-at-as_slice.true)
 
-pub invariant-of-self : goal.invariant-of-self
-invariant-of-self c =
+pub invariant_of-self : goal.invariant_of-self
+invariant_of-self c =
     let j = c.args.self.now in
     (subst (λ (l : List Row). all_first (rows_of l) (vec_items j.entries) ≡ true) (sym c.push.ensures.items) (grown-first (is_ok c.push.result) (vec_items j.rows) c.in_ok-row.row (vec_items j.entries) j.placed), tt)
 
