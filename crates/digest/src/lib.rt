@@ -1,4 +1,6 @@
 // SHA-256, as RFC 6234 defines it: the digest of a slice, and a running state for bytes that come in parts.
+#![tactic(auto)]
+
 ghost use Rattle.std.specs.Prelude.{◌≡◌};
 ghost use Rattle.digest.specs.Constants.{ConstantsRight};
 ghost use Rattle.digest.specs.Sha256.{PaddedWhole, sha256 as sha256_of};

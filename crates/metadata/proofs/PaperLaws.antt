@@ -1,7 +1,7 @@
 -- The laws of papers. Assumes nothing.
-use Rattle.std.proofs.Common.{◌≡◌, ℕ, ◌^◌, ◌<◌, Bool, true, false, cond, eqb, ltb, List, [], ◌∷◌, ◌++◌, length, Ok, Err, Result, sym, refl, ap, ◌∙◌, subst, append_assoc, append-nil, arith}
+use Rattle.std.proofs.Common.{◌≡◌, ℕ, ◌^◌, ◌<◌, Bool, true, false, cond, eqb, ltb, List, [], ◌++◌, length, Ok, Err, Result, sym, refl, ap, ◌∙◌, subst, append_assoc, append-nil, arith}
 use Rattle.std.proofs.lemmas.List.{nil_from_length}
-use Rattle.std.proofs.lemmas.Bool.{eqb-true, eq-eqb}
+use Rattle.std.proofs.lemmas.Bool.{eqb-true}
 use Rattle.model.specs.declared.fault.Fault.{Fault}
 use Rattle.model.specs.declared.fault.Fault.TheVariants.{Malformed, OutOfRange}
 use Rattle.model.specs.Metadata.{Meta, File, Delegation, Metadata, ARoot, ATimestamp, ASnapshot, ATargets}
@@ -12,7 +12,7 @@ use Rattle.wire.proofs.Laws.{not-ok, same_ok, inv-then, inv-only, lawful-pair, l
 use Rattle.wire.proofs.Numbers.{lawful-number, lawful-version}
 use Rattle.wire.proofs.Tables.{lawful-rising}
 use Rattle.wire.proofs.Leaves.{lawful-quorum, lawful-stepped, lawful-flag}
-use Rattle.metadata.specs.Papers.{root, timestamp, meta, metas, snapshot, file, files, delegation, delegations, targets, wrapped, of_kind, bytes_of_paper, WellFormed, paper, whole, paper_in}
+use Rattle.metadata.specs.Papers.{root, timestamp, meta, snapshot, file, files, delegation, targets, wrapped, of_kind, bytes_of_paper, WellFormed, paper, paper_in}
 use Rattle.metadata.specs.OneForm.{OneForm}
 
 lawful-root : Lawful root

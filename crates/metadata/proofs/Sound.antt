@@ -1,16 +1,16 @@
 -- Well-formed papers are sound. Assumes nothing.
-use Rattle.std.proofs.Common.{◌≡◌, ℕ, ◌<◌, ◌≤◌, Bool, true, false, cond, not, ◌&&◌, eqb, ltb, leb, ◌⊎◌, List, [], ◌∷◌, length, Some, None, Option, sym, refl, ap, ◌∙◌, subst, inl, inr, true≢false, arith}
+use Rattle.std.proofs.Common.{◌≡◌, ℕ, ◌<◌, ◌≤◌, Bool, true, false, cond, not, eqb, ltb, leb, ◌⊎◌, List, [], ◌∷◌, length, Some, None, Option, sym, refl, ap, ◌∙◌, subst, inl, inr, true≢false, arith}
 use mathlib.Core.List.{Memᴰ}
 use Rattle.std.specs.List.{AllByRecursion as All}
 use Rattle.std.proofs.lemmas.Bool.{eqb-true, eqb-false, eq-eqb, ne_eqb, ltb-true, lt-ltb, leb-true, and_parts, not-true}
 use Rattle.model.specs.Lists.{DifferBy}
-use Rattle.model.specs.Metadata.{Key, Quorum, Meta, File, Delegation, Targets, Metadata, ARoot, ATimestamp, ASnapshot, ATargets}
+use Rattle.model.specs.Metadata.{Key, Quorum, Meta, File, Delegation, ARoot, ATimestamp, ASnapshot, ATargets}
 use Rattle.wire.specs.Formats.{Format}
 use Rattle.wire.specs.Numbers.{block}
 use Rattle.wire.specs.Tables.{follows, rises}
-use Rattle.wire.specs.Leaves.{below, within, quorum}
-use Rattle.metadata.specs.Papers.{meta, file, delegation, WellFormed}
-use Rattle.metadata.specs.OneForm.{SoundQuorum, Sound, WellFormedSound}
+use Rattle.wire.specs.Leaves.{below, quorum}
+use Rattle.metadata.specs.Papers.{meta, file, delegation}
+use Rattle.metadata.specs.OneForm.{SoundQuorum, WellFormedSound}
 
 -- ORDERS
 

@@ -1,12 +1,12 @@
 -- The bytes of papers. Assumes nothing.
-use Rattle.std.specs.Prelude.{◌≡◌, ℕ, Bool, true, false, cond, List, [], ◌∷◌, ◌++◌, length, Ok, Err, Result, ◌==◌, nat_le, nat_lt}
+use Rattle.std.specs.Prelude.{ℕ, cond, List, ◌++◌, length, Ok, Err, Result, ◌==◌, nat_le, nat_lt}
 use Rattle.model.specs.declared.fault.Fault.{Fault}
 use Rattle.model.specs.declared.fault.Fault.TheVariants.{Malformed, OutOfRange}
 use Rattle.model.specs.Metadata.{Root, Timestamp, Meta, Snapshot, File, Delegation, Targets, Metadata, ARoot, ATimestamp, ASnapshot, ATargets}
 use Rattle.wire.specs.Formats.{Format, and_then, pair, only, mapped}
 use Rattle.wire.specs.Numbers.{block, bytes_of, number, version}
 use Rattle.wire.specs.Tables.{rising, table}
-use Rattle.wire.specs.Leaves.{below, within, quorum, path, prefix, flag}
+use Rattle.wire.specs.Leaves.{below, quorum, path, prefix, flag}
 
 -- version, last day, and the quorums of root, timestamp, snapshot and top
 abbrev pub root : Format Root

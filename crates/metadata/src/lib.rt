@@ -1,4 +1,6 @@
 //! The four papers as views over lent bytes, and reading them.
+#![tactic(auto)]
+
 pub mod paper;
 pub mod root;
 pub mod snapshot;

@@ -1,23 +1,22 @@
 -- What a look-up finds is backed. Assumes nothing.
-use Rattle.std.proofs.Common.{◌≡◌, ℕ, zero, suc, Bool, true, false, cond, ◌&&◌, T, eqb, List, [], ◌∷◌, ◌++◌, Some, None, Option, sym, refl, ap, ◌∙◌, subst, eqb→eq, leb→le}
+use Rattle.std.proofs.Common.{◌≡◌, ℕ, zero, suc, Bool, true, false, cond, T, eqb, List, [], ◌∷◌, ◌++◌, Some, None, Option, sym, refl, ap, ◌∙◌, subst, eqb→eq, leb→le}
 use mathlib.Core.List.{Memᴰ}
 use lib.Dec.{eqb_refl}
-use Rattle.model.specs.declared.fault.Fault.{Fault}
 use Rattle.model.specs.declared.fault.Fault.TheVariants.{Differs}
 use Rattle.model.specs.Lists.{all}
-use Rattle.model.specs.Metadata.{Key, Digest, Steps, Quorum, Root, Timestamp, Meta, Snapshot, File, Delegation, Targets, ATargets, Signed}
+use Rattle.model.specs.Metadata.{Digest, Steps, Quorum, Root, Timestamp, Snapshot, File, Delegation, Targets, ATargets, Signed}
 use Rattle.model.specs.Same.{same_list}
 use Rattle.model.specs.Device.{Device, Answer, Taken, Gives, Refused}
-use Rattle.model.specs.Taking.{version_in, is_version, current, names}
+use Rattle.model.specs.Taking.{version_in, is_version, current}
 use Rattle.model.specs.Look.{Found, Sure, Missing, Ended, Stale, Gap, begins, file_at, at_hand, targets_at, or_on, or_through, through as look_through, in_targets, look_deep, standing, look}
 use Rattle.model.specs.Run.{told, checked}
 use Rattle.model.specs.World.{World}
 use Rattle.model.specs.Whole.{StartsWith, AtHand, Backs, listed, through, Backed, Whole, Main}
-use Rattle.model.proofs.Facts.{and_l, and_r, both_hold, each, some-not, none-not, some_same, is_true, Decides}
-use Rattle.model.proofs.Same.{tells, bytes}
+use Rattle.model.proofs.Facts.{and_l, and_r, both_hold, each, is_true, Decides}
+use Rattle.model.proofs.Same.{bytes}
 use Rattle.model.proofs.ListFacts.{first_found}
 use Rattle.model.proofs.Inv.{Inv, TargetsSigned, vouch, by-reached, run-reached}
-use Rattle.model.specs.World.{Reached, made}
+use Rattle.model.specs.World.{made}
 
 -- the test of a prefix
 pub starts : (p path : Steps) → Decides (begins p path) (StartsWith p path)

@@ -1,11 +1,11 @@
 -- Who is to blame for an entry, and who signed two. Assumes nothing.
-use Rattle.std.proofs.Common.{◌≡◌, ◌+◌, ◌≤◌, not, T, ◌⊎◌, List, length, sym, refl, ap, ◌∙◌, subst, inl, inr, arith, leb→le}
+use Rattle.std.proofs.Common.{◌≡◌, ◌+◌, ◌≤◌, not, T, ◌⊎◌, List, length, sym, ap, ◌∙◌, subst, inl, inr, arith}
 use mathlib.Core.List.{Memᴰ}
 use Rattle.model.specs.Metadata.{Key, Quorum}
-use Rattle.model.specs.Quorums.{is_in, once, among, counted}
+use Rattle.model.specs.Quorums.{is_in, once, among}
 use Rattle.model.specs.Journal.{Entry}
 use Rattle.model.specs.World.{World, Vouches}
-use Rattle.model.specs.Blames.{Wrote, misused, Blamed, both, Overlap, Blames}
+use Rattle.model.specs.Blames.{Wrote, misused, Blamed, Overlap, Blames}
 use Rattle.model.proofs.ListFacts.{kept_in, kept-differ}
 use Rattle.model.proofs.Count.{in_list, once-short, overlap, some-or-all}
 use Rattle.model.proofs.Inv.{Good, vouching, by-reached}

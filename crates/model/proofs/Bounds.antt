@@ -1,20 +1,20 @@
 -- What is taken stands in the journal, within its limits. Assumes nothing.
-use Rattle.std.proofs.Common.{◌≡◌, ℕ, ◌+◌, ◌≤◌, Bool, true, false, cond, ◌||◌, T, eqb, ◌⊎◌, List, [], ◌∷◌, length, Some, None, filter, Option, sym, refl, ap, ◌∙◌, subst, inl, inr, arith, eqb→eq, leb→le}
+use Rattle.std.proofs.Common.{◌≡◌, ℕ, ◌+◌, ◌≤◌, Bool, true, false, cond, ◌||◌, T, List, [], ◌∷◌, length, Some, None, Option, sym, refl, ap, ◌∙◌, subst, inl, inr, arith, eqb→eq, leb→le}
 use mathlib.Core.List.{Memᴰ}
-use Rattle.model.specs.Lists.{all, any, count, DifferBy}
-use Rattle.model.specs.Metadata.{Key, Digest, Quorum, Root, Timestamp, Snapshot, Targets, Metadata, ARoot, ATimestamp, ASnapshot, ATargets, Signed, Offer}
+use Rattle.model.specs.Lists.{all, count, DifferBy}
+use Rattle.model.specs.Metadata.{Key, Digest, Quorum, Root, Snapshot, Targets, Metadata, ARoot, ATimestamp, ASnapshot, ATargets, Signed, Offer}
 use Rattle.model.specs.Same.{same_quorums, same_papers}
 use Rattle.model.specs.Journal.{Entry, entry, stands, noted, noted_root, under, fits, room, room_root}
 use Rattle.model.specs.Device.{Device, Taken, fresh}
 use Rattle.model.specs.Taking.{first_fault, checks_of, take_of, root_checks, timestamp_checks, snapshot_checks, targets_checks, take_root, take_timestamp, take_snapshot, take_targets, lists, other_than, quorum_for, when_asked, noted_if, offered}
 use Rattle.model.specs.Run.{Event, Offers, Begins, Asks, Installs, day_fault, on_day, step}
 use Rattle.model.specs.World.{World, Reached, made, after}
-use Rattle.model.specs.Judged.{Asked, Stands}
+use Rattle.model.specs.Judged.{Stands}
 use Rattle.model.specs.Recorded.{AskedFor, copies, places, Unrepeated, Bounded, Recorded}
-use Rattle.model.proofs.Facts.{or_case, is_true, is_false, each, Decides, by-test}
+use Rattle.model.proofs.Facts.{is_true, is_false, each, by-test}
 use Rattle.model.proofs.Same.{tells, quorums, papers}
-use Rattle.model.proofs.ListFacts.{cons-all, any-is, kept_in, kept-differ}
-use Rattle.model.proofs.Settled.{AllPass, all_pass, settled, taken}
+use Rattle.model.proofs.ListFacts.{cons-all, kept_in, kept-differ}
+use Rattle.model.proofs.Settled.{all_pass, settled, taken}
 use Rattle.model.proofs.Going.{next-day}
 use Rattle.model.proofs.Rules.{is-asked, other-means, same-means, stands-means}
 

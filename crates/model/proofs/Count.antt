@@ -1,8 +1,6 @@
 -- Counting different keys. Assumes nothing.
-use Rattle.std.proofs.Common.{◌≡◌, ℕ, suc, ◌+◌, ◌≤◌, Bool, true, false, cond, not, T, ◌⊎◌, List, [], ◌∷◌, length, filter, sym, refl, ap, ◌∙◌, subst, inl, inr, arith, le→leb, leb→le}
+use Rattle.std.proofs.Common.{◌≡◌, suc, ◌+◌, ◌≤◌, Bool, true, false, cond, not, T, ◌⊎◌, List, [], ◌∷◌, length, filter, sym, refl, ap, ◌∙◌, subst, inl, inr, arith, le→leb, leb→le}
 use mathlib.Core.List.{Memᴰ}
-use lib.Dec.{not_T}
-use Rattle.model.specs.Lists.{DifferBy}
 use Rattle.model.specs.Metadata.{Key, Quorum}
 use Rattle.model.specs.Same.{same_list}
 use Rattle.model.specs.Quorums.{is_in, once, among, counted, enough}

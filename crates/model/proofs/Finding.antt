@@ -1,17 +1,14 @@
 -- The look-up's answer is the one that the rules allow. Assumes nothing.
-use Rattle.std.proofs.Common.{◌≡◌, ℕ, zero, suc, ◌≤◌, Bool, true, false, cond, T, List, [], ◌∷◌, Some, None, Option, sym, refl, ap, ◌∙◌, subst, le→leb, leb→le}
+use Rattle.std.proofs.Common.{◌≡◌, ℕ, zero, suc, Bool, true, false, cond, T, List, [], ◌∷◌, Some, None, Option, sym, refl, ap, ◌∙◌, subst, le→leb, leb→le}
 use mathlib.Core.List.{Memᴰ}
-use Rattle.model.specs.Lists.{all, first, First, DifferBy}
-use Rattle.model.specs.Metadata.{Digest, Steps, Quorum, Root, Timestamp, Snapshot, File, Delegation, Targets, Signed}
+use Rattle.model.specs.Lists.{DifferBy}
+use Rattle.model.specs.Metadata.{Digest, Steps, Quorum, Timestamp, Snapshot, File, Delegation, Targets, Signed}
 use Rattle.model.specs.Same.{same_list}
-use Rattle.model.specs.Quorums.{enough}
 use Rattle.model.specs.Device.{Device}
-use Rattle.model.specs.Taking.{current}
 use Rattle.model.specs.Look.{Found, Sure, Missing, Ended, Stale, Gap, begins, file_at, at_hand, targets_at, or_on, or_through, through, in_targets, look_deep, standing, look}
-use Rattle.model.specs.World.{World, Reached}
 use Rattle.model.specs.Whole.{StartsWith}
 use Rattle.model.specs.Ways.{Goes, none, skip, take, stop, pass, Hand, Comes, broken, has, asks, Finds, Standing, Allows, stale, stands, FoundExactly}
-use Rattle.model.proofs.Facts.{is_true, is_false, each, all_of, some-not, none-not, some_same, Decides, decides_eq, decides-le}
+use Rattle.model.proofs.Facts.{is_true, is_false, each, all_of, Decides, decides_eq}
 use Rattle.model.proofs.Same.{tells, bytes}
 use Rattle.model.proofs.ListFacts.{first-is, first-none, is-first, first-in, first_found, differ_same}
 use Rattle.model.proofs.Count.{enough-means}

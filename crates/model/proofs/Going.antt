@@ -1,10 +1,9 @@
 -- Nothing goes back. Assumes nothing.
-use Rattle.std.proofs.Common.{◌≡◌, ℕ, ◌+◌, ◌<◌, ◌≤◌, Bool, true, false, cond, ◌&&◌, T, eqb, leb, ◌⊎◌, List, [], ◌∷◌, ◌++◌, Some, None, Option, sym, refl, ap, ◌∙◌, subst, inl, inr, arith, eqb→eq, ltb→lt, leb→le}
-use mathlib.Core.List.{Memᴰ}
+use Rattle.std.proofs.Common.{◌≡◌, ℕ, ◌+◌, ◌<◌, ◌≤◌, Bool, true, false, cond, T, eqb, ◌⊎◌, List, [], ◌∷◌, ◌++◌, Some, None, Option, sym, refl, ap, ◌∙◌, subst, inl, inr, arith, eqb→eq, ltb→lt, leb→le}
 use Rattle.std.specs.Option.{option_map}
 use Rattle.model.specs.declared.fault.Fault.TheVariants.{OutOfRange}
 use Rattle.model.specs.Lists.{first}
-use Rattle.model.specs.Metadata.{Key, Digest, Quorum, Root, Timestamp, Meta, Snapshot, Targets, Metadata, ARoot, ATimestamp, ASnapshot, ATargets, Offer}
+use Rattle.model.specs.Metadata.{Key, Digest, Quorum, Root, Timestamp, Meta, Snapshot, Metadata, ARoot, ATimestamp, ASnapshot, ATargets, Offer}
 use Rattle.model.specs.Same.{same_quorums}
 use Rattle.model.specs.Journal.{Entry, entry, stands, noted}
 use Rattle.model.specs.Device.{Device}

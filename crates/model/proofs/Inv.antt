@@ -1,15 +1,14 @@
 -- What holds of a device that can be reached: who signed what it keeps. Assumes nothing.
-use Rattle.std.proofs.Common.{◌≡◌, ℕ, ◌+◌, Bool, true, false, cond, T, eqb, List, [], ◌∷◌, length, Some, None, filter, Option, sym, refl, ap, subst, eqb→eq, leb→le}
+use Rattle.std.proofs.Common.{◌≡◌, ℕ, ◌+◌, Bool, true, false, cond, T, List, [], ◌∷◌, length, Some, None, filter, Option, sym, refl, subst, eqb→eq, leb→le}
 use mathlib.Core.List.{Memᴰ}
 use Rattle.model.specs.Metadata.{Key, Quorum, Root, Timestamp, Snapshot, Targets, Metadata, ARoot, ATimestamp, ASnapshot, ATargets, Signed, Offer}
-use Rattle.model.specs.Same.{same_quorums}
 use Rattle.model.specs.Quorums.{counted, enough}
 use Rattle.model.specs.Journal.{Entry, entry, stands, noted}
 use Rattle.model.specs.Device.{Device, fresh}
 use Rattle.model.specs.Taking.{first_fault, root_checks, timestamp_checks, snapshot_checks, targets_checks, take_root, take_timestamp, take_snapshot, take_targets, stays, keep_if, lists, other_than, quorum_for, when_asked, noted_if, offered}
 use Rattle.model.specs.Run.{Event, Offers, Begins, Asks, Installs, day_fault, on_day, step, run}
 use Rattle.model.specs.World.{World, AllSigned, Lawful, AllLawful, Reached, made, after, Vouches, Vouched, Chain, here, next}
-use Rattle.model.proofs.Facts.{each, some-not, none-not, some_same}
+use Rattle.model.proofs.Facts.{each, none-not, some_same}
 use Rattle.model.proofs.Same.{quorums}
 use Rattle.model.proofs.ListFacts.{cons-all, kept_in}
 use Rattle.model.proofs.Count.{counts}

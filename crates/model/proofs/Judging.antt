@@ -1,22 +1,21 @@
 -- An offer is judged as the rules say in words. Assumes nothing.
-use Rattle.std.proofs.Common.{◌≡◌, ℕ, ◌+◌, ◌≤◌, Bool, true, false, cond, not, ◌&&◌, T, eqb, leb, ◌⊎◌, List, [], ◌∷◌, Some, None, filter, Option, sym, refl, ap, ◌∙◌, subst, inl, inr, arith, leb→le}
-use mathlib.Core.List.{Memᴰ}
+use Rattle.std.proofs.Common.{◌≡◌, ℕ, ◌+◌, ◌≤◌, Bool, true, false, cond, ◌&&◌, T, eqb, leb, List, [], ◌∷◌, Some, None, filter, Option, sym, refl, ap, ◌∙◌, subst, inl, inr, arith, leb→le}
 use Rattle.model.specs.declared.fault.Fault.{Fault}
 use Rattle.model.specs.declared.fault.Fault.TheVariants.{OutOfRange}
 use Rattle.model.specs.Numbers.{number_of}
-use Rattle.model.specs.Metadata.{Key, Digest, Quorum, Root, Timestamp, Snapshot, Targets, Metadata, ARoot, ATimestamp, ASnapshot, ATargets, Signed, Offer}
+use Rattle.model.specs.Metadata.{Key, Digest, Quorum, Snapshot, Targets, Metadata, ARoot, ATimestamp, ASnapshot, ATargets, Signed, Offer}
 use Rattle.model.specs.Quorums.{enough}
-use Rattle.model.specs.Journal.{Entry, entry, noted, room}
-use Rattle.model.specs.Device.{Device, Answer, Taken, Refused, settle}
-use Rattle.model.specs.Taking.{Check, first_fault, checks_of, take_of, stays, lists, other_than, quorum_for, noted_if, offered}
-use Rattle.model.specs.Run.{Begins, day_fault, on_day, step}
+use Rattle.model.specs.Journal.{room}
+use Rattle.model.specs.Device.{Device, Taken, Refused, settle}
+use Rattle.model.specs.Taking.{Check, first_fault, checks_of, take_of, stays, lists, other_than, noted_if}
+use Rattle.model.specs.Run.{on_day}
 use Rattle.model.specs.Meanings.{Meets}
-use Rattle.model.specs.Judged.{GivesVersion, Asked, Room, Noted, Condition, rule_for, Holds, Fails, Lowest, Becomes, JudgedOffer, DayBegun, JudgedDay, Judged}
-use Rattle.model.proofs.Facts.{and_l, and_r, is_true, is_false, some-not, none-not, some_same, Decides, decides_eq, decides-le, by-test}
+use Rattle.model.specs.Judged.{GivesVersion, Room, Noted, Condition, rule_for, Holds, Fails, Lowest, Becomes, JudgedOffer, DayBegun, JudgedDay, Judged}
+use Rattle.model.proofs.Facts.{and_l, and_r, is_true, is_false, none-not, some_same, Decides, decides_eq, decides-le}
 use Rattle.model.proofs.ListFacts.{sifted}
 use Rattle.model.proofs.Count.{enough-means}
 use Rattle.model.proofs.Settled.{AllPass, all_pass, no-fault, taken, refused, decided}
-use Rattle.model.proofs.Going.{stays-means, keep_same, keep-not, next-day}
+use Rattle.model.proofs.Going.{stays-means, keep_same, keep-not}
 use Rattle.model.proofs.Rules.{newer-means, named-means, covers-old-means, listed-means, current-means, is-asked, when-asked-means, asked-some, other-means, room-means, room-root-means, noted-means}
 
 -- each check decides the condition at its place, and has its fault

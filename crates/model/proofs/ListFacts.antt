@@ -1,7 +1,7 @@
 -- The words on lists: tests that compute against relations. Assumes nothing.
-use Rattle.std.proofs.Common.{◌≡◌, ℕ, ◌+◌, ◌≤◌, Bool, true, false, cond, not, ◌||◌, T, ◌⊎◌, List, [], ◌∷◌, ◌++◌, Some, None, filter, Option, sym, refl, ap, ◌∙◌, subst, inl, inr, arith}
+use Rattle.std.proofs.Common.{◌≡◌, Bool, true, false, cond, T, ◌⊎◌, List, [], ◌∷◌, ◌++◌, Some, None, filter, sym, refl, ap, ◌∙◌, subst, inl, inr}
 use mathlib.Core.List.{Memᴰ}
-use Rattle.model.specs.Lists.{any, first, count, First, Sifted, over, keeps, drops, DifferBy}
+use Rattle.model.specs.Lists.{any, first, First, Sifted, over, keeps, drops, DifferBy}
 use Rattle.model.proofs.Facts.{or_case, or_l, or_r, is_true, is_false, some-not, none-not, some_same, Decides}
 
 -- what holds of all elements behind a cons

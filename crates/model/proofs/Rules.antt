@@ -1,15 +1,15 @@
 -- Each test of taking decides what the rules say in words. Assumes nothing.
-use Rattle.std.proofs.Common.{◌≡◌, ℕ, ◌+◌, ◌<◌, ◌≤◌, Bool, true, false, cond, not, ◌&&◌, ◌||◌, T, eqb, leb, ◌⊎◌, List, [], ◌∷◌, ◌++◌, length, is_some, Some, None, filter, Option, sym, refl, ap, ◌∙◌, subst, inl, inr, arith, le→leb, eqb→eq, ltb→lt, lt→ltb, leb→le}
+use Rattle.std.proofs.Common.{◌≡◌, ℕ, ◌<◌, ◌≤◌, Bool, true, false, cond, T, eqb, ◌⊎◌, List, [], ◌∷◌, ◌++◌, length, is_some, Some, None, filter, Option, sym, refl, ap, ◌∙◌, subst, inl, inr, arith, le→leb, eqb→eq, ltb→lt, lt→ltb, leb→le}
 use mathlib.Core.List.{Memᴰ}
 use Rattle.std.specs.Option.{option_map, option_or}
-use Rattle.model.specs.Lists.{all, first, First, Sifted}
-use Rattle.model.specs.Metadata.{Key, Digest, Quorum, Root, Timestamp, Meta, Snapshot, Delegation, Targets, Metadata, Signed, Offer}
+use Rattle.model.specs.Lists.{all, first, First}
+use Rattle.model.specs.Metadata.{Digest, Quorum, Timestamp, Meta, Snapshot, Delegation, Targets, Metadata, Signed, Offer}
 use Rattle.model.specs.Same.{same_list, same_quorums, same_papers}
 use Rattle.model.specs.Journal.{Entry, entry, stands, noted, noted_root, under, fits, room, room_root}
 use Rattle.model.specs.Device.{Device}
-use Rattle.model.specs.Taking.{newer, names, named, version_in, at_least, covers, covers_kept, lists, is_version, current, delegations_of, delegations_at, quorum_for, when_asked, noted_if, other_than}
+use Rattle.model.specs.Taking.{newer, names, named, version_in, at_least, covers, covers_kept, lists, is_version, current, delegations_of, delegations_at, quorum_for, when_asked, other_than}
 use Rattle.model.specs.Judged.{Newer, Named, GivesVersion, Covers, Current, Delegates, Asked, for-top, delegated, Stands, Room, RoomTwice, Noted}
-use Rattle.model.proofs.Facts.{and_l, and_r, or_case, or_l, or_r, both_hold, is_true, is_false, each, all_of, some-not, none-not, some_same, Decides, decides_eq, decides-eq-sym, decides-le, decides_not, by-test}
+use Rattle.model.proofs.Facts.{and_l, and_r, or_case, or_l, or_r, both_hold, is_true, is_false, each, all_of, none-not, some_same, Decides, decides_eq, decides-eq-sym, decides_not, by-test}
 use Rattle.model.proofs.Same.{tells, bytes, quorums, papers}
 use Rattle.model.proofs.ListFacts.{cons-all, first-is, first-none, is-first, first-in, sifted, sifted-same, any-is, is_any}
 

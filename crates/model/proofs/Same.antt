@@ -1,8 +1,8 @@
 -- What passes a test of sameness is equal, and what is equal passes. Assumes nothing.
-use Rattle.std.proofs.Common.{◌≡◌, ℕ, Bool, true, false, ◌&&◌, T, eqb, List, [], ◌∷◌, refl, ap, subst, eqb→eq}
+use Rattle.std.proofs.Common.{◌≡◌, Bool, true, false, T, eqb, List, [], ◌∷◌, refl, ap, subst, eqb→eq}
 use mathlib.Core.Bool.{beq}
 use lib.Dec.{eqb_refl}
-use Rattle.model.specs.Metadata.{Quorum, Root, Timestamp, Meta, Snapshot, File, Delegation, Targets, Metadata, ARoot, ATimestamp, ASnapshot, ATargets}
+use Rattle.model.specs.Metadata.{Metadata, ARoot, ATimestamp, ASnapshot, ATargets}
 use Rattle.model.specs.Same.{same_by, same_list, same_quorums, same_root, same_timestamp, same_meta, same_snapshot, same_file, same_delegation, same_targets, same_papers}
 use Rattle.model.proofs.Facts.{and_l, and_r, both_hold, each, all_of, Decides}
 

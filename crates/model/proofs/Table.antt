@@ -1,7 +1,7 @@
 -- The worked cases, by computation. Assumes nothing.
-use Rattle.std.proofs.Common.{◌≡◌, refl}
+use Rattle.std.proofs.Common.{refl}
 use Rattle.model.specs.Lists.{all}
-use Rattle.model.specs.Cases.{Row, Right, Cases}
+use Rattle.model.specs.Cases.{Cases}
 
 pub cases : Cases
 unfolding all

@@ -3,9 +3,9 @@ use Rattle.std.specs.Prelude.{◌≡◌, ℕ, ◌+◌, Bool, true, false, List, 
 use Rattle.model.specs.declared.fault.Fault.{Fault}
 use Rattle.model.specs.declared.fault.Fault.TheVariants.{Malformed, OutOfRange, OutOfOrder, NotEnough, NotNext, NotNewer, NotNamed, Regresses, NotListed, NotDelegated, Expired, Full, NotFound, Terminated, Broken, Differs}
 use Rattle.model.specs.Numbers.{number_of}
-use Rattle.model.specs.Metadata.{Key, Digest, Quorum, Root, Timestamp, Meta, Snapshot, File, Delegation, Targets, Metadata, ARoot, ATimestamp, ASnapshot, ATargets}
+use Rattle.model.specs.Metadata.{Key, Digest, Quorum, Root, Meta, Snapshot, File, Delegation, Metadata, ARoot, ATimestamp, ASnapshot, ATargets}
 use Rattle.model.specs.Journal.{Entry}
-use Rattle.model.specs.Device.{Device, Answer, Taken, Gives, Refused, fresh}
+use Rattle.model.specs.Device.{Answer, Taken, Gives, Refused, fresh}
 use Rattle.model.specs.Run.{Event, Offers, Begins, Asks, Installs, run, answers}
 use Rattle.model.specs.Blames.{both}
 

@@ -1,5 +1,5 @@
 -- What a device keeps, and what it answers. Assumes nothing.
-use Rattle.std.specs.Prelude.{ℕ, List, [], ◌∷◌, Some, None, Option}
+use Rattle.std.specs.Prelude.{ℕ, List, [], Some, None, Option}
 use Rattle.model.specs.declared.fault.Fault.{Fault}
 use Rattle.model.specs.Metadata.{Root, Timestamp, Snapshot, Targets, File, Signed}
 use Rattle.model.specs.Journal.{Entry}

@@ -7,7 +7,7 @@ use Rattle.model.specs.Numbers.{number_of}
 use Rattle.model.specs.Lists.{First, Sifted}
 use Rattle.model.specs.Metadata.{Key, Digest, Steps, Quorum, Root, Timestamp, Meta, Snapshot, Delegation, Targets, Metadata, ARoot, ATimestamp, ASnapshot, ATargets, Signed, Offer}
 use Rattle.model.specs.Journal.{Entry, entry, under}
-use Rattle.model.specs.Device.{Device, Answer, Taken, Gives, Refused}
+use Rattle.model.specs.Device.{Device, Taken, Refused}
 use Rattle.model.specs.Taking.{offered}
 use Rattle.model.specs.Run.{Begins, Asks, Installs, step}
 use Rattle.model.specs.Meanings.{Meets}

@@ -1,5 +1,5 @@
 -- What the tests mean, in words. Assumes nothing.
-use Rattle.std.specs.Prelude.{◌≡◌, ℕ, ◌≤◌, Bool, T, List, length}
+use Rattle.std.specs.Prelude.{◌≡◌, ◌≤◌, T, List, length}
 use mathlib.Core.List.{Memᴰ}
 use Rattle.model.specs.Metadata.{Key, Quorum, Metadata}
 use Rattle.model.specs.Same.{same_quorums, same_papers}

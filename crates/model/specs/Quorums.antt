@@ -1,5 +1,5 @@
 -- When the signers of a paper are enough for a quorum. Assumes nothing.
-use Rattle.std.specs.Prelude.{ℕ, Bool, cond, List, [], ◌∷◌, length, filter, nat_le}
+use Rattle.std.specs.Prelude.{Bool, cond, List, [], ◌∷◌, length, filter, nat_le}
 use Rattle.model.specs.Lists.{any}
 use Rattle.model.specs.Metadata.{Key, Quorum}
 use Rattle.model.specs.Same.{same_list}

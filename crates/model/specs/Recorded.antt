@@ -2,7 +2,7 @@
 use Rattle.std.specs.Prelude.{◌≡◌, ℕ, ◌≤◌, ◌⊎◌, List, [], ◌∷◌, length}
 use mathlib.Core.List.{Memᴰ}
 use Rattle.model.specs.Lists.{all, count, DifferBy}
-use Rattle.model.specs.Metadata.{Digest, Quorum, Root, Timestamp, Snapshot, Targets, Metadata, ARoot, ATimestamp, ASnapshot, ATargets, Signed, Offer}
+use Rattle.model.specs.Metadata.{Digest, Quorum, Root, Snapshot, Targets, Metadata, ARoot, ATimestamp, ASnapshot, ATargets, Signed, Offer}
 use Rattle.model.specs.Same.{same_quorums, same_papers}
 use Rattle.model.specs.Journal.{Entry, under}
 use Rattle.model.specs.Device.{Device, Taken}

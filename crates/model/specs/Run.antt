@@ -1,11 +1,11 @@
 -- Events, and what a device makes of them. Assumes nothing.
-use Rattle.std.specs.Prelude.{ℕ, ◌+◌, Bool, true, false, cond, List, [], ◌∷◌, Some, None, Option, ◌==◌}
+use Rattle.std.specs.Prelude.{ℕ, ◌+◌, cond, List, [], ◌∷◌, Some, None, Option, ◌==◌}
 use Rattle.model.specs.declared.fault.Fault.{Fault}
 use Rattle.model.specs.declared.fault.Fault.TheVariants.{OutOfRange, NotFound, Terminated, Broken, Expired, Differs}
 use Rattle.model.specs.Lists.{all}
-use Rattle.model.specs.Metadata.{Digest, Steps, File, Snapshot, Offer}
+use Rattle.model.specs.Metadata.{Digest, Steps, Snapshot, Offer}
 use Rattle.model.specs.Same.{same_list}
-use Rattle.model.specs.Device.{Device, Answer, Taken, Gives, Refused, Outcome, settle}
+use Rattle.model.specs.Device.{Device, Answer, Gives, Refused, Outcome, settle}
 use Rattle.model.specs.Taking.{offered}
 use Rattle.model.specs.Look.{Found, Sure, Missing, Ended, Stale, Gap, look}
 

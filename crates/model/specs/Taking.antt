@@ -4,7 +4,7 @@ use Rattle.std.specs.Option.{option_map}
 use Rattle.model.specs.declared.fault.Fault.{Fault}
 use Rattle.model.specs.declared.fault.Fault.TheVariants.{NotEnough, NotNext, NotNewer, NotNamed, Regresses, NotListed, NotDelegated, Expired, Full}
 use Rattle.model.specs.Lists.{all, first}
-use Rattle.model.specs.Metadata.{Key, Digest, Quorum, Root, Timestamp, Meta, Snapshot, Delegation, Targets, Metadata, ARoot, ATimestamp, ASnapshot, ATargets, Signed, Offer}
+use Rattle.model.specs.Metadata.{Digest, Quorum, Root, Timestamp, Meta, Snapshot, Delegation, Targets, Metadata, ARoot, ATimestamp, ASnapshot, ATargets, Signed, Offer}
 use Rattle.model.specs.Same.{same_list, same_quorums}
 use Rattle.model.specs.Quorums.{enough}
 use Rattle.model.specs.Journal.{Entry, noted, noted_root, room, room_root}

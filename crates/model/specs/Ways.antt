@@ -1,5 +1,5 @@
 -- The look-up's rules as a relation, which allows exactly one answer. Assumes nothing.
-use Rattle.std.specs.Prelude.{◌≡◌, ℕ, zero, suc, ◌≤◌, Bool, true, false, List, [], ◌∷◌, Some, None}
+use Rattle.std.specs.Prelude.{◌≡◌, ℕ, zero, suc, ◌≤◌, true, false, List, [], ◌∷◌, Some}
 use mathlib.Core.List.{Memᴰ}
 use Rattle.model.specs.Lists.{First}
 use Rattle.model.specs.Metadata.{Digest, Steps, Quorum, Root, Timestamp, Snapshot, File, Delegation, Targets, Signed}
@@ -8,7 +8,7 @@ use Rattle.model.specs.Look.{Found, Sure, Missing, Ended, Stale, Gap, look}
 use Rattle.model.specs.World.{World, Reached}
 use Rattle.model.specs.Whole.{StartsWith}
 use Rattle.model.specs.Meanings.{Meets}
-use Rattle.model.specs.Judged.{Current, Named}
+use Rattle.model.specs.Judged.{Current}
 
 -- what delegations, in order, come to, given what a look-up of each role comes to
 pub data Goes (R : ℕ → Quorum → Found → Type 0) (path : Steps) : List Delegation → Found → Type 0 where

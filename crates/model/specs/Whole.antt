@@ -1,7 +1,7 @@
 -- THE MAIN PROMISE. Whatever is offered, in whatever order: a file that is found has an unbroken way from the first root. Assumes nothing.
 use Rattle.std.specs.Prelude.{◌≡◌, ℕ, suc, ◌≤◌, List, ◌++◌, Some}
 use mathlib.Core.List.{Memᴰ}
-use Rattle.model.specs.Metadata.{Key, Steps, Quorum, Root, Timestamp, Snapshot, File, Delegation, Targets, ATimestamp, ASnapshot, ATargets, Signed}
+use Rattle.model.specs.Metadata.{Key, Steps, Quorum, Root, Timestamp, Snapshot, File, Delegation, Targets, ATimestamp, ASnapshot, ATargets}
 use Rattle.model.specs.Device.{Device, Gives, fresh}
 use Rattle.model.specs.Taking.{version_in}
 use Rattle.model.specs.Look.{Sure, look}

@@ -1,5 +1,5 @@
 -- Who signed what, the events that can happen, and the devices that they lead to. Assumes nothing.
-use Rattle.std.specs.Prelude.{◌≡◌, ℕ, ◌+◌, ◌≤◌, Bool, T, List, [], ◌∷◌, length}
+use Rattle.std.specs.Prelude.{◌≡◌, ◌+◌, ◌≤◌, Bool, T, List, [], ◌∷◌, length}
 use mathlib.Core.List.{Memᴰ}
 use Rattle.model.specs.Lists.{DifferBy}
 use Rattle.model.specs.Metadata.{Key, Digest, Quorum, Root, Snapshot, Metadata, ARoot}

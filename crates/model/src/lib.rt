@@ -1,5 +1,7 @@
 //! The law that all code of the updater answers to: what a device takes, keeps, forgets and finds, in `specs/`, and what is
 //! promised of it. Each promise is the contract of a function here, so that it has to be proved. The functions compute nothing.
+#![tactic(auto)]
+
 ghost use Rattle.model.specs.Whole.{Main};
 ghost use Rattle.model.specs.Blames.{Blames};
 ghost use Rattle.model.specs.Onward.{Onward};

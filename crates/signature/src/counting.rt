@@ -36,7 +36,7 @@ fn is_new_and_right<V: Verifier>(
     signature: &Signature,
     earlier: &[Signature],
 ) -> bool
-    ensures { result ≡ (right_of accepts message.now key.now (signature_of signature.now) && not (is_in signature.now earlier.now)) }
+    ensures { result ≡ (right_of V.accepts message.now key.now (signature_of signature.now) && not (is_in signature.now earlier.now)) }
 {
     let (signer, bytes) = key_and_bytes(signature);
     same_bytes(key, signer)
@@ -51,7 +51,7 @@ fn first_right<'a, V: Verifier>(
     message: &[u8],
     signatures: Signatures<'a>,
 ) -> Option<&'a Signature>
-    ensures { option_map (λ s. signature_of s.now) result ≡ first (right_of accepts message.now key.now) (signatures_of signatures.entry) }
+    ensures { option_map (λ s. signature_of s.now) result ≡ first (right_of V.accepts message.now key.now) (signatures_of signatures.entry) }
 {
     for (i, signature) in signatures.items.iter().enumerate() {
         if is_new_and_right(verifier, key, message, signature, &signatures.items[..i]) {
@@ -69,7 +69,7 @@ fn counts_for<'a, V: Verifier>(
     message: &[u8],
     signatures: Signatures<'a>,
 ) -> Option<&'a Signature>
-    ensures { option_map (λ s. signature_of s.now) result ≡ (if is_in key.now later.now then None else first (right_of accepts message.now key.now) (signatures_of signatures.entry)) }
+    ensures { option_map (λ s. signature_of s.now) result ≡ (if is_in key.now later.now then None else first (right_of V.accepts message.now key.now) (signatures_of signatures.entry)) }
 {
     if is_among(key, later) {
         return None;
@@ -85,7 +85,7 @@ fn right_signatures<'a, V: Verifier>(
     message: &[u8],
     signatures: Signatures<'a>,
 ) -> Result<Vec<&'a Signature>, AllocError>
-    ensures { IfOk result (λ v. Chosen accepts message.now (quorum_of quorum.entry) (signatures_of signatures.entry) (map (λ s. signature_of s.now) v.items)) }
+    ensures { IfOk result (λ v. Chosen V.accepts message.now (quorum_of quorum.entry) (signatures_of signatures.entry) (map (λ s. signature_of s.now) v.items)) }
 {
     let mut right = Vec::new(heap);
     let mut keys = quorum.keys;
@@ -105,7 +105,7 @@ fn count_keys<V: Verifier>(
     message: &[u8],
     signatures: Signatures<'_>,
 ) -> usize
-    ensures { result ≡ length (counted (quorum_of quorum.entry) (signers_in accepts message.now (signatures_of signatures.entry))) }
+    ensures { result ≡ length (counted (quorum_of quorum.entry) (signers_in V.accepts message.now (signatures_of signatures.entry))) }
 {
     let mut count = 0;
     let mut keys = quorum.keys;
@@ -134,9 +134,9 @@ pub fn count<'a, V: Verifier>(
     message: &[u8],
     signatures: Signatures<'a>,
 ) -> Result<Counted<'a>, AllocError>
-    ensures chosen { IfOk result (λ c. Chosen accepts message.now (quorum_of quorum.entry) (signatures_of signatures.entry) (map (λ s. signature_of s.now) c.signatures.items)) }
-    ensures answer { IfOk result (λ c. c.enough ≡ enough_of (quorum_of quorum.entry) (signers_in accepts message.now (signatures_of signatures.entry))) }
-    ensures backed { IfOk result (λ c. AllSigned signed message.now (map (λ s. signature_of s.now) c.signatures.items)) }
+    ensures chosen { IfOk result (λ c. Chosen V.accepts message.now (quorum_of quorum.entry) (signatures_of signatures.entry) (map (λ s. signature_of s.now) c.signatures.items)) }
+    ensures answer { IfOk result (λ c. c.enough ≡ enough_of (quorum_of quorum.entry) (signers_in V.accepts message.now (signatures_of signatures.entry))) }
+    ensures backed { IfOk result (λ c. AllSigned V.signed message.now (map (λ s. signature_of s.now) c.signatures.items)) }
 {
     let right = right_signatures(heap, verifier, quorum, message, signatures)?;
     let enough = reaches(quorum, right.len());
@@ -153,8 +153,8 @@ pub fn is_enough<V: Verifier>(
     message: &[u8],
     signatures: Signatures<'_>,
 ) -> bool
-    ensures answer { result ≡ enough_of (quorum_of quorum.entry) (signers_in accepts message.now (signatures_of signatures.entry)) }
-    ensures backed { T result → Backed signed message.now (quorum_of quorum.entry) }
+    ensures answer { result ≡ enough_of (quorum_of quorum.entry) (signers_in V.accepts message.now (signatures_of signatures.entry)) }
+    ensures backed { T result → Backed V.signed message.now (quorum_of quorum.entry) }
 {
     reaches(quorum, count_keys(verifier, quorum, message, signatures))
 }

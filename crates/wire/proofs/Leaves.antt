@@ -1,5 +1,5 @@
 -- The laws of keys, quorums, paths and flags. Assumes nothing.
-use Rattle.std.proofs.Common.{◌≡◌, ℕ, ◌*◌, ◌^◌, ◌<◌, Bool, true, false, cond, eqb, List, [], ◌∷◌, ◌++◌, map, length, Ok, Err, Result, sym, refl, ap, ◌∙◌, subst, arith}
+use Rattle.std.proofs.Common.{◌≡◌, ℕ, ◌*◌, ◌^◌, ◌<◌, Bool, true, false, cond, eqb, List, ◌++◌, length, Ok, Err, Result, sym, refl, ap, ◌∙◌, subst, arith}
 use Rattle.std.specs.Simd.{first_chunks}
 use Rattle.std.specs.List.{flat_map, AllByRecursion as All}
 use Rattle.std.proofs.lemmas.Bool.{eqb-true}
@@ -7,7 +7,7 @@ use Rattle.model.specs.declared.fault.Fault.{Fault}
 use Rattle.model.specs.declared.fault.Fault.TheVariants.{Malformed, OutOfRange}
 use Rattle.wire.specs.Formats.{Lawful, Bytes, and_then}
 use Rattle.wire.specs.Numbers.{block, big_endian, bytes_of, number}
-use Rattle.wire.specs.Leaves.{below, within, keys, quorum, steps_of, steps, stepped, flag}
+use Rattle.wire.specs.Leaves.{below, keys, quorum, steps_of, steps, stepped, flag}
 use Rattle.wire.proofs.Laws.{not-ok, same_ok, inv-then, lawful-pair, lawful-only, lawful-mapped, lawful-block, lawful-recoded}
 use Rattle.wire.proofs.Numbers.{length-bytes_of, back-again, once_more, lawful-number}
 use Rattle.wire.proofs.Tables.{lawful-rising}

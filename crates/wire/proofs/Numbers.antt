@@ -1,5 +1,5 @@
 -- Numbers as bytes, for every width. Assumes nothing.
-use Rattle.std.proofs.Common.{◌≡◌, ℕ, zero, suc, ◌+◌, ◌*◌, ◌/◌, ◌%◌, ◌^◌, ◌<◌, ◌≤◌, Bool, true, false, cond, ltb, List, [], ◌∷◌, ◌++◌, length, get_or, take, drop, Ok, Err, Result, sym, refl, ap, ◌∙◌, subst, div-lt_iff_lt-mul, pow-suc, add-one, arith}
+use Rattle.std.proofs.Common.{◌≡◌, ℕ, zero, suc, ◌+◌, ◌*◌, ◌/◌, ◌%◌, ◌^◌, ◌<◌, ◌≤◌, Bool, cond, List, [], ◌∷◌, ◌++◌, length, get_or, take, drop, Ok, Err, Result, sym, refl, ap, ◌∙◌, subst, div-lt_iff_lt-mul, pow-suc, add-one, arith}
 use native.Mathlib.Nat.{pow-zero}
 use Rattle.std.specs.Int.Digits.{number_from_digits as number_in}
 use Rattle.std.proofs.lemmas.List.{take_all, take_more, length-take-le, length-append}
@@ -9,7 +9,7 @@ use Rattle.std.proofs.lemmas.Bool.{le-ltb}
 use Rattle.model.specs.declared.fault.Fault.{Fault}
 use Rattle.model.specs.declared.fault.Fault.TheVariants.{Malformed, OutOfRange}
 use Rattle.wire.specs.Formats.{Lawful, Bytes, and_then}
-use Rattle.wire.specs.Numbers.{block, big_endian, bytes_of, number, version}
+use Rattle.wire.specs.Numbers.{big_endian, bytes_of, number, version}
 use Rattle.wire.proofs.Laws.{lawful-recoded, lawful-only}
 
 whole : (n : ℕ) (xs : List ℕ) → length xs ≡ n → number_in 256 (take n xs) ≡ number_in 256 xs

@@ -1,5 +1,5 @@
 -- Blocks of bytes, and numbers with the high byte first. Assumes nothing.
-use Rattle.std.specs.Prelude.{◌≡◌, ℕ, zero, suc, ◌/◌, ◌%◌, ◌^◌, ◌<◌, Bool, true, false, cond, not, List, [], ◌∷◌, ◌++◌, length, take, drop, Ok, Err, Result, ◌==◌, nat_lt}
+use Rattle.std.specs.Prelude.{◌≡◌, ℕ, zero, suc, ◌/◌, ◌%◌, ◌^◌, ◌<◌, cond, not, List, [], ◌∷◌, ◌++◌, length, take, drop, Ok, Err, ◌==◌, nat_lt}
 use Rattle.std.specs.Int.Digits.{number_from_digits as number_in}
 use Rattle.model.specs.declared.fault.Fault.TheVariants.{Malformed, OutOfRange}
 use Rattle.wire.specs.Formats.{Format, and_then, only}

@@ -1,4 +1,6 @@
 //! Formats as a grammar, and the leaves: numbers, keys, quorums, paths.
+#![tactic(auto)]
+
 pub mod key;
 pub mod number;
 pub mod path;

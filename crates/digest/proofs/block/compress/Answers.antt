@@ -1,4 +1,4 @@
-use Rattle.std.proofs.Common.{◌≡◌, ◌++◌, length, ◌∙◌, arith, length-append, rules}
+use Rattle.std.proofs.Common.{◌≡◌, ◌++◌, length, ◌∙◌, length-append, rules}
 use Rattle.digest.specs.Running.{hash_of}
 use Rattle.digest.proofs.Windows.{compressed-64}
 use Rattle.digest.proofs.block.compress.Goals as goal

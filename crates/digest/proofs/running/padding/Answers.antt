@@ -1,4 +1,4 @@
-use Rattle.std.proofs.Common.{◌≡◌, ◌+◌, ◌-◌, ◌*◌, ◌%◌, ◌^◌, sym, ◌∙◌, div-one, arith}
+use Rattle.std.proofs.Common.{◌≡◌, ◌+◌, ◌-◌, ◌*◌, ◌%◌, ◌^◌, ◌∙◌, div-one, arith}
 use Rattle.digest.specs.Sha256.{bytes_of, zeros}
 use Rattle.digest.proofs.Written.{padding-is}
 use Rattle.digest.proofs.running.padding.Goals as goal

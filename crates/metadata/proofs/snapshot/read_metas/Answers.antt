@@ -1,4 +1,4 @@
-use Rattle.std.proofs.Common.{◌≡◌, ltb, List, [], ◌∷◌, ◌++◌, None, Ok, sym, ap, ◌∙◌}
+use Rattle.std.proofs.Common.{ltb, List, [], ◌∷◌, ◌++◌, None, Ok, sym, ap, ◌∙◌}
 use Rattle.std.proofs.lemmas.Result.{err_from_is_err_and}
 use Rattle.model.specs.Metadata.{Meta}
 use Rattle.wire.proofs.Tables.{rising-start, rising-more, rising-fault, rising-order, rising-done, items-rising}

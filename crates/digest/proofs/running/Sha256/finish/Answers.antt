@@ -1,5 +1,4 @@
-use Rattle.std.proofs.Common.{◌≡◌, ℕ, List, ◌++◌, length, sym, ap, ◌∙◌}
-use Rattle.digest.specs.Running.{hash_of}
+use Rattle.std.proofs.Common.{ℕ, List, ◌++◌, length, ap, ◌∙◌}
 use Rattle.digest.specs.Sha256.{absorbed, blocks, digest, initial, padding, sha256}
 use Rattle.digest.proofs.Written.{padding-modulo}
 use Rattle.digest.proofs.running.Sha256.finish.Goals as goal
