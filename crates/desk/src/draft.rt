@@ -169,13 +169,13 @@ fn put_list(lines: &mut Lines<'_>, out: &mut Bytes) -> Result<(), TextError> {
 
 fn put_paper(lines: &mut Lines<'_>, out: &mut Bytes) -> Result<(), TextError> {
     let kind = lines.word(Expected::Kind)?;
-    if kind == b"root" {
+    if kind == b"root".as_slice() {
         put_root(lines, out)?;
-    } else if kind == b"clock" {
+    } else if kind == b"clock".as_slice() {
         put_clock(lines, out)?;
-    } else if kind == b"index" {
+    } else if kind == b"index".as_slice() {
         put_index(lines, out)?;
-    } else if kind == b"list" {
+    } else if kind == b"list".as_slice() {
         put_list(lines, out)?;
     } else {
         return Err(lines.refuse(Expected::Kind));

@@ -1,4 +1,6 @@
 //! What the desk does with papers: so far, checking their bytes.
+#![tactic(auto)]
+
 ghost use Rattle.std.specs.Prelude.{◌≡◌};
 ghost use Rattle.metadata.specs.Papers.{paper_in};
 ghost use Rattle.desk.specs.Checks.{checked_of, word_of};

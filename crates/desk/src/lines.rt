@@ -242,10 +242,10 @@ impl<'a> Lines<'a> {
     /// `last yes` or `last no`, as 1 or 0.
     pub fn flag(&mut self) -> Result<u64, TextError> {
         let line = self.next(Expected::Flag)?;
-        if line == b"last yes" {
+        if line == b"last yes".as_slice() {
             return Ok(1);
         }
-        if line == b"last no" {
+        if line == b"last no".as_slice() {
             return Ok(0);
         }
         Err(self.refuse(Expected::Flag))

@@ -25,10 +25,10 @@ fn first_argument(rt: &HostRuntime) -> anyhow::Result<Command> {
     let mut args = env::args(rt)?;
     let _program = args.next();
     match args.next() {
-        Some(word) if word == "check" => Ok(Command::Check),
-        Some(word) if word == "to-text" => Ok(Command::ToText),
-        Some(word) if word == "to-bytes" => Ok(Command::ToBytes),
-        Some(word) if word == "--help" => Ok(Command::Help),
+        Some(word) if word.as_str() == "check" => Ok(Command::Check),
+        Some(word) if word.as_str() == "to-text" => Ok(Command::ToText),
+        Some(word) if word.as_str() == "to-bytes" => Ok(Command::ToBytes),
+        Some(word) if word.as_str() == "--help" => Ok(Command::Help),
         _ => Ok(Command::Unknown),
     }
 }
@@ -78,7 +78,7 @@ fn serve(rt: &HostRuntime) -> anyhow::Result<()> {
         return Ok(());
     }
     if let Command::Unknown = command {
-        return Err(USAGE.into());
+        return Err(anyhow!("{USAGE}"));
     }
     let mut input = Vec::new(rt.alloc());
     rt.stdin().read_to_end(&mut input)?;

@@ -4,7 +4,7 @@ use lib.Seq.{drop-append_seam}
 use Rattle.std.specs.Str.Parse.{AllDigits, digits_value, digits_value_after}
 use Rattle.std.specs.Char.{digit_value}
 use Rattle.std.specs.Int.{IsInRange}
-use Rattle.std.specs.List.{flat_map, AllByRecursion as All}
+use Rattle.std.specs.List.{flat_map, AllByRecursion}
 use Rattle.std.proofs.lemmas.Fmt.{decimal_is_IsNumeral, decimal_injective}
 use Rattle.std.proofs.lemmas.Str.Parse.{digit_from_value}
 use Rattle.std.proofs.ByRecursion.{All-append}
@@ -31,11 +31,11 @@ use Rattle.line.proofs.Forms.{list_same, same-list, Content, Tailed, line-back, 
 pub from-within : (low high n : ℕ) → within low high n ≡ true → (low ≤ n) × (n ≤ high)
 from-within low high n h = let t = and_parts (leb low n) (leb n high) h in (leb-true low n t.0, leb-true n high t.1)
 
-pub all-below : (m : ℕ) (xs : List ℕ) → all_below m xs ≡ true → All (λ x. x < m) xs
+pub all-below : (m : ℕ) (xs : List ℕ) → all_below m xs ≡ true → AllByRecursion (λ x. x < m) xs
 all-below m [] h = tt
 all-below m (x ∷ xs) h = let t = and_parts (ltb x m) (all_below m xs) h in (ltb-true x m t.0, all-below m xs t.1)
 
-pub below_all : (m : ℕ) (xs : List ℕ) → All (λ x. x < m) xs → all_below m xs ≡ true
+pub below_all : (m : ℕ) (xs : List ℕ) → AllByRecursion (λ x. x < m) xs → all_below m xs ≡ true
 below_all m [] h = refl
 below_all m (x ∷ xs) h = and_from (ltb x m) (all_below m xs) (lt-ltb x m h.0) (below_all m xs h.1)
 
@@ -80,7 +80,7 @@ unended-hex (b ∷ bs) =
     let l = digit_of-least (b % 16) in
     (ne_eqb (digit_of (b / 16)) 10 (λ e. omega (arith, h, e)), (ne_eqb (digit_of (b % 16)) 10 (λ e. omega (arith, l, e)), unended-hex bs))
 
-pub unended-steps : (mark : ℕ) (ss : Steps) → eqb mark 10 ≡ false → All (λ s. s < 65536) ss → Unended (steps_from mark ss)
+pub unended-steps : (mark : ℕ) (ss : Steps) → eqb mark 10 ≡ false → AllByRecursion (λ s. s < 65536) ss → Unended (steps_from mark ss)
 unended-steps mark [] m a = tt
 unended-steps mark (s ∷ ss) m a = (m, All-append (λ b. eqb b 10 ≡ false) (decimal s) (steps_from 47 ss) (unended-decimal s (omega (arith, a.0))) (unended-steps 47 ss refl a.1))
 
@@ -186,11 +186,11 @@ past-digits n (c ∷ cs) rest d =
 past-step : (s : ℕ) (rest : List ℕ) → s < 65536 → steps_after 0 (decimal s ++ rest) ≡ steps_after s rest
 past-step s rest h = let r = decimal_is_IsNumeral s (omega (arith, h)) in past-digits 0 (decimal s) rest r.0.1 ∙ ap (λ n. steps_after n rest) r.1
 
-steps-after : (s : ℕ) (ss : Steps) → All (λ x. x < 65536) ss → steps_after s (steps_from 47 ss) ≡ s ∷ ss
+steps-after : (s : ℕ) (ss : Steps) → AllByRecursion (λ x. x < 65536) ss → steps_after s (steps_from 47 ss) ≡ s ∷ ss
 steps-after s [] a = refl
 steps-after s (t ∷ ss) a = ap (λ l. s ∷ l) (past-step t (steps_from 47 ss) a.0 ∙ steps-after t ss a.1)
 
-pub steps-again : (ss : Steps) → All (λ x. x < 65536) ss → steps_in (steps_from 32 ss) ≡ ss
+pub steps-again : (ss : Steps) → AllByRecursion (λ x. x < 65536) ss → steps_in (steps_from 32 ss) ≡ ss
 steps-again [] a = refl
 steps-again (s ∷ ss) a = past-step s (steps_from 47 ss) a.0 ∙ steps-after s ss a.1
 

@@ -2,7 +2,7 @@
 use Rattle.std.specs.Prelude.{◌≡◌, ℕ, ◌+◌, ◌-◌, ◌*◌, ◌<◌, Bool, true, false, cond, ◌&&◌, List, [], ◌∷◌, ◌++◌, length, drop, Ok, Err, codes, Result, ◌==◌, nat_lt}
 use Rattle.std.specs.Str.Parse.{digits_value}
 use Rattle.std.specs.Char.{digit_value}
-use Rattle.std.specs.List.{flat_map, AllByRecursion as All}
+use Rattle.std.specs.List.{flat_map, AllByRecursion}
 use Rattle.model.specs.Metadata.{Key, Steps}
 use Rattle.model.specs.Same.{same_list}
 use Rattle.wire.specs.Formats.{FormatOf, and_then}
@@ -115,7 +115,7 @@ ruled f test e = record {
 
 -- no line ends here
 abbrev pub Unended : List ℕ → Type 0
-Unended bs = All (λ b. (b == 10) ≡ false) bs
+Unended bs = AllByRecursion (λ b. (b == 10) ≡ false) bs
 
 -- a text begins with a line on which a word stands and then v; behind it comes the rest
 pub record Begins (word text v rest : List ℕ) : Type 0 where

@@ -1,7 +1,7 @@
 -- Steps between slashes, as a loop takes them apart. Assumes nothing.
 use Rattle.std.proofs.Common.{◌≡◌, ℕ, ◌+◌, ◌^◌, ◌<◌, ◌≤◌, Bool, true, false, cond, eqb, List, [], ◌∷◌, ◌++◌, length, get_or, take, drop, decimal, sym, refl, ap, ◌∙◌, subst, append_assoc, append-nil, arith}
 use Rattle.std.specs.Str.Parse.{AllDigits}
-use Rattle.std.specs.List.{AllByRecursion as All}
+use Rattle.std.specs.List.{AllByRecursion}
 use Rattle.std.proofs.lemmas.Fmt.{decimal_is_IsNumeral, decimal_injective}
 use Rattle.std.proofs.ByRecursion.{All-append}
 use Rattle.std.proofs.lemmas.List.{length-append, drop_more, nil_from_length}
@@ -40,7 +40,7 @@ step-first s ss h =
     let a = at-slash ss in
     (d.0 ∙ ap (λ l. decimal s ++ l) a.0 ∙ append-nil (decimal s), d.1 ∙ a.1)
 
-all_right : {X : Type 0} (P : X → Type 0) (xs ys : List X) → All P (xs ++ ys) → All P ys
+all_right : {X : Type 0} (P : X → Type 0) (xs ys : List X) → AllByRecursion P (xs ++ ys) → AllByRecursion P ys
 all_right P [] ys a = a
 all_right P (x ∷ xs) ys a = all_right P xs ys a.1
 
@@ -78,7 +78,7 @@ module _ (value left : List ℕ) (mark : ℕ) (path : Steps) (w : Walk value lef
             let both : first ∷ rest ≡ mark ∷ (decimal s ++ steps_from 47 more) = sym e ∙ l in
             let marked : first ≡ mark = cc in
             let tail : rest ≡ decimal s ++ steps_from 47 more = cc in
-            let small = (all_right (λ x. x < 65536) path (s ∷ more) (subst (All (λ x. x < 65536)) a f.1)).0 in
+            let small = (all_right (λ x. x < 65536) path (s ∷ more) (subst (AllByRecursion (λ x. x < 65536)) a f.1)).0 in
             let k = step-first s more small in
             record {
               step = s;

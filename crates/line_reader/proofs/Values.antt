@@ -3,7 +3,7 @@ use Rattle.std.proofs.Common.{◌≡◌, ℕ, zero, suc, ◌+◌, ◌*◌, ◌/�
 use Rattle.std.specs.Str.Parse.{AllDigits, digits_value, without_leading_plus, ParsesUnsigned}
 use Rattle.std.specs.Int.{IsInRange}
 use Rattle.std.specs.Simd.{first_chunks}
-use Rattle.std.specs.List.{flat_map, AllByRecursion as All}
+use Rattle.std.specs.List.{flat_map, AllByRecursion}
 use Rattle.std.proofs.lemmas.Fmt.{decimal_is_IsNumeral, decimal_digit, decimal-digits_value, first_decimal, IsAscii-decimal}
 use Rattle.std.proofs.ByRecursion.{All-get_or}
 use Rattle.std.proofs.lemmas.List.{length-append, get_or-map, map_push, take_more, take_more_set}
@@ -108,7 +108,7 @@ hex-more bytes pairs i b h k e g =
     ∙ (λ j. e j ++ (sym g j ∷ [])) ∙ sym (take_more pairs i [] k)
 
 -- a pair that is no byte's is none of the pairs of bytes
-pub hex-none : (bs digits : List ℕ) (pairs : List (List ℕ)) (i : ℕ) → digits ≡ hex_of bs → pairs ≡ first_chunks 2 (length bs) digits → i < length bs → All (λ b. b < 256) bs →
+pub hex-none : (bs digits : List ℕ) (pairs : List (List ℕ)) (i : ℕ) → digits ≡ hex_of bs → pairs ≡ first_chunks 2 (length bs) digits → i < length bs → AllByRecursion (λ b. b < 256) bs →
     ((b : ℕ) → b < 256 → get_or pairs i [] ≡ hex_of_byte b → ⊥) → ⊥
 hex-none bs digits pairs i e p h a none =
     none (get_or bs i 0) (All-get_or (λ b. b < 256) bs i 0 h a)

@@ -1,6 +1,6 @@
 -- Paths in the code, and steps as the code takes them apart. Assumes nothing.
 use Rattle.std.specs.Prelude.{ℕ, ◌<◌, ◌≤◌, cond, List, [], ◌∷◌, length, take, ◌==◌}
-use Rattle.std.specs.List.{AllByRecursion as All}
+use Rattle.std.specs.List.{AllByRecursion}
 use Rattle.model.specs.Metadata.{Steps}
 use Rattle.wire.specs.Leaves.{steps_of}
 use Rattle.line_reader.specs.declared.path.Path.{Path}
@@ -20,4 +20,4 @@ behind_step (b ∷ bs) = cond (b == 47) (b ∷ bs) (behind_step bs)
 
 -- up to 8 steps of two bytes
 abbrev pub FewSteps : Steps → Type 0
-FewSteps ss = (length ss ≤ 8) × All (λ s. s < 65536) ss
+FewSteps ss = (length ss ≤ 8) × AllByRecursion (λ s. s < 65536) ss

@@ -1,7 +1,7 @@
 -- Well-formed papers are sound. Assumes nothing.
 use Rattle.std.proofs.Common.{◌≡◌, ℕ, ◌<◌, ◌≤◌, Bool, true, false, cond, not, eqb, ltb, leb, ◌⊎◌, List, [], ◌∷◌, length, Some, None, Option, sym, refl, ap, ◌∙◌, subst, inl, inr, true≢false, arith}
 use mathlib.Core.List.{Memᴰ}
-use Rattle.std.specs.List.{AllByRecursion as All}
+use Rattle.std.specs.List.{AllByRecursion}
 use Rattle.std.proofs.lemmas.Bool.{eqb-true, eqb-false, eq-eqb, ne_eqb, ltb-true, lt-ltb, leb-true, and_parts, not-true}
 use Rattle.model.specs.Lists.{DifferBy}
 use Rattle.model.specs.Metadata.{Key, Quorum, Meta, File, Delegation, ARoot, ATimestamp, ASnapshot, ATargets}
@@ -94,7 +94,7 @@ sound-quorum q w =
       most = leb-true q.threshold (length q.keys) t.1;
     }
 
-all_sound : (bs : List Delegation) → All delegation.Wf bs → (b : Delegation) → Memᴰ b bs → SoundQuorum b.quorum
+all_sound : (bs : List Delegation) → AllByRecursion delegation.Wf bs → (b : Delegation) → Memᴰ b bs → SoundQuorum b.quorum
 all_sound [] a = λ b m. elim m [ ]
 all_sound (x ∷ xs) a = at (sound-quorum x.quorum a.0.1.0) (all_sound xs a.1)
   where

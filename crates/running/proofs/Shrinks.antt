@@ -1,7 +1,7 @@
 -- What is left behind an item is shorter than what the item was read from. Assumes nothing.
 use Rattle.std.proofs.Common.{◌≡◌, ℕ, zero, suc, ◌+◌, ◌-◌, ◌*◌, ◌^◌, ◌<◌, ◌≤◌, Bool, true, false, cond, eqb, ltb, List, [], ◌∷◌, length, take, drop, Some, None, Ok, Err, Option, Result, sym, refl, ap, ◌∙◌, subst, arith}
 use Rattle.std.specs.Simd.{first_chunks}
-use Rattle.std.specs.List.{flat_map, AllByRecursion as All}
+use Rattle.std.specs.List.{flat_map, AllByRecursion}
 use Rattle.std.proofs.lemmas.List.{length-drop}
 use Rattle.std.proofs.lemmas.Bool.{ltb-false}
 use Rattle.model.specs.declared.fault.Fault.{Fault}
@@ -86,7 +86,7 @@ shrinks-signatures : Shrinking signatures
 shrinks-signatures = shrinks-mapped _ _ _ (shrinks-pair _ _ (shrinks-number 1) (λ n. shrinks-table signature (shrinks-mapped _ _ _ (shrinks-pair _ _ (shrinks-block 32) (λ _. shrinks-block 64))) n))
 
 shrinks-steps : (n : ℕ) → Shrinking (steps n)
-shrinks-steps n = shrinks-recoded (n * 2) (λ bs. steps_of (first_chunks 2 n bs)) (λ ss. flat_map (bytes_of 2) ss) (λ ss. (length ss ≡ n) × All (λ s. s < 256 ^ 2) ss)
+shrinks-steps n = shrinks-recoded (n * 2) (λ bs. steps_of (first_chunks 2 n bs)) (λ ss. flat_map (bytes_of 2) ss) (λ ss. (length ss ≡ n) × AllByRecursion (λ s. s < 256 ^ 2) ss)
 
 shrinks-path : Shrinking path
 shrinks-path = shrinks-mapped (pair (only (number 1) (within 1 8) OutOfRange) steps) (λ x. x.1) (λ ss. (length ss, ss)) (shrinks-pair _ _ (shrinks-only (number 1) (within 1 8) OutOfRange (shrinks-number 1)) shrinks-steps)

@@ -1,5 +1,5 @@
 -- The text of papers, in the users' words. Assumes nothing.
-use Rattle.std.specs.Prelude.{ℕ, Bool, cond, List, [], ◌∷◌, ◌++◌, length, codes}
+use Rattle.std.specs.Prelude.{ℕ, Bool, cond, List, ◌++◌, length, codes}
 use Rattle.std.specs.List.{flat_map}
 use Rattle.model.specs.Metadata.{Key, Quorum, Root, Timestamp, Meta, Snapshot, File, Delegation, Targets, Metadata, ARoot, ATimestamp, ASnapshot, ATargets}
 use Rattle.text.specs.Lines.{bare, numbered, hexed, stepped}

@@ -1,3 +1,5 @@
 //! The text of papers, one field a line, in the users' words.
+#![tactic(auto)]
+
 pub mod line;
 pub mod paper;

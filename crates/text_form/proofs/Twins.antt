@@ -1,6 +1,6 @@
 -- A text format and a byte format of the same values. Assumes nothing.
 use Rattle.std.proofs.Common.{◌≡◌, ℕ, zero, suc, ◌/◌, ◌%◌, ◌^◌, ◌<◌, ◌≤◌, Bool, true, false, cond, not, ◌&&◌, eqb, ltb, leb, List, [], ◌∷◌, ◌++◌, length, Some, None, Option, sym, refl, ap, ◌∙◌, subst, arith}
-use Rattle.std.specs.List.{flat_map, AllByRecursion as All}
+use Rattle.std.specs.List.{flat_map, AllByRecursion}
 use Rattle.std.proofs.ByRecursion.{All-append}
 use Rattle.std.proofs.lemmas.Bool.{and_parts, and_from, eqb-true, eq-eqb, le-leb, leb-true}
 use Rattle.wire.specs.Formats.{FormatOf, Format, Bytes, pair, mapped}
@@ -13,11 +13,11 @@ use Rattle.line.specs.declared.expected.Word.{Word}
 use Rattle.line.proofs.Leaves.{from-within, all-below, below_all}
 use Rattle.text_form.specs.Chains.{Chained, chain}
 
-pub all_left : {X : Type 0} (P : X → Type 0) (xs ys : List X) → All P (xs ++ ys) → All P xs
+pub all_left : {X : Type 0} (P : X → Type 0) (xs ys : List X) → AllByRecursion P (xs ++ ys) → AllByRecursion P xs
 all_left P [] ys a = tt
 all_left P (x ∷ xs) ys a = (a.0, all_left P xs ys a.1)
 
-pub all_right : {X : Type 0} (P : X → Type 0) (xs ys : List X) → All P (xs ++ ys) → All P ys
+pub all_right : {X : Type 0} (P : X → Type 0) (xs ys : List X) → AllByRecursion P (xs ++ ys) → AllByRecursion P ys
 all_right P [] ys a = a
 all_right P (x ∷ xs) ys a = all_right P xs ys a.1
 
@@ -89,14 +89,14 @@ pub record TwinItem {A K : Type 0} (item : Option K → FormatOf Bad A) (f : For
   pub back : (last : Option K) (x : A) → f.Wf x → Bytes (f.write x) → follows below last (key x) ≡ true → (item last).Wf x
 
 module _ {A K : Type 0} (item : Option K → FormatOf Bad A) (f : Format A) (key : A → K) (below : K → K → Bool) (T : TwinItem item f key below) where
-  chain-there : (last : Option K) (xs : List A) → Chained item key last xs → All f.Wf xs × Bytes (flat_map f.write xs) × (rises f key below last xs ≡ true)
+  chain-there : (last : Option K) (xs : List A) → Chained item key last xs → AllByRecursion f.Wf xs × Bytes (flat_map f.write xs) × (rises f key below last xs ≡ true)
   chain-there last [] w = (tt, tt, refl)
   chain-there last (x ∷ xs) w =
       let a = T.there last x w.0 in
       let b = chain-there (Some (key x)) xs w.1 in
       ((a.0, b.0), All-append Small (f.write x) (flat_map f.write xs) a.1 b.1, ap (λ t. cond t (rises f key below (Some (key x)) xs) false) a.2 ∙ b.2)
 
-  chain-again : (last : Option K) (xs : List A) → All f.Wf xs → Bytes (flat_map f.write xs) → rises f key below last xs ≡ true → Chained item key last xs
+  chain-again : (last : Option K) (xs : List A) → AllByRecursion f.Wf xs → Bytes (flat_map f.write xs) → rises f key below last xs ≡ true → Chained item key last xs
   chain-again last [] w b r = tt
   chain-again last (x ∷ xs) w b r =
       let k = both (follows below last (key x)) (rises f key below (Some (key x)) xs) r in

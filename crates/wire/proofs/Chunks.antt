@@ -1,7 +1,7 @@
 -- Bytes in chunks of one length. Assumes nothing.
 use Rattle.std.proofs.Common.{◌≡◌, ℕ, zero, suc, ◌+◌, ◌*◌, ◌<◌, List, [], ◌∷◌, ◌++◌, map, length, take, drop, sym, refl, ap, ◌∙◌, suc-mul, zero-mul, arith}
 use Rattle.std.specs.Simd.{first_chunks}
-use Rattle.std.specs.List.{flat_map, AllByRecursion as All}
+use Rattle.std.specs.List.{flat_map, AllByRecursion}
 use Rattle.std.proofs.lemmas.List.{length-append, take_at, drop_at, take-append-drop, length-take-le, length-drop, nil_from_length, drop-drop, take-take, drop-take}
 use Rattle.std.proofs.ByRecursion.{All-drop, All-take}
 
@@ -22,20 +22,20 @@ module _ (w : ℕ) where
 
   -- a value for each chunk: what is written and read of one chunk carries over to all
   module _ {A : Type 0} (to : List ℕ → A) (from : A → List ℕ) (Fits : A → Type 0)
-      (long : (x : A) → length (from x) ≡ w) (back : (x : A) → Fits x → to (from x) ≡ x) (once : (xs : List ℕ) → length xs ≡ w → All (λ b. b < 256) xs → (from (to xs) ≡ xs) × Fits (to xs)) where
+      (long : (x : A) → length (from x) ≡ w) (back : (x : A) → Fits x → to (from x) ≡ x) (once : (xs : List ℕ) → length xs ≡ w → AllByRecursion (λ b. b < 256) xs → (from (to xs) ≡ xs) × Fits (to xs)) where
     pub length-joined : (xs : List A) → length (flat_map from xs) ≡ length xs * w
     length-joined [] = sym (zero-mul w)
     length-joined (x ∷ xs) = omega (arith, length-append (from x) (flat_map from xs), length-joined xs, long x, suc-mul (length xs) w)
 
-    pub chunked-joined : (xs : List A) → All Fits xs → map to (first_chunks w (length xs) (flat_map from xs)) ≡ xs
+    pub chunked-joined : (xs : List A) → AllByRecursion Fits xs → map to (first_chunks w (length xs) (flat_map from xs)) ≡ xs
     chunked-joined [] f = refl
     chunked-joined (x ∷ xs) f =
         let rest = flat_map from xs in
         (λ i. to (take_at (from x) rest w (long x) i) ∷ map to (first_chunks w (length xs) (drop_at (from x) rest w (long x) i)))
         ∙ (λ i. back x f.0 i ∷ chunked-joined xs f.1 i)
 
-    pub joined-chunked : (n : ℕ) (xs : List ℕ) → length xs ≡ n * w → All (λ b. b < 256) xs →
-        (flat_map from (map to (first_chunks w n xs)) ≡ xs) × (length (map to (first_chunks w n xs)) ≡ n) × All Fits (map to (first_chunks w n xs))
+    pub joined-chunked : (n : ℕ) (xs : List ℕ) → length xs ≡ n * w → AllByRecursion (λ b. b < 256) xs →
+        (flat_map from (map to (first_chunks w n xs)) ≡ xs) × (length (map to (first_chunks w n xs)) ≡ n) × AllByRecursion Fits (map to (first_chunks w n xs))
     joined-chunked zero xs h b = (sym (nil_from_length xs (h ∙ zero-mul w)), refl, tt)
     joined-chunked (suc n) xs h b =
         let more = joined-chunked n (drop w xs) (simp length-drop (omega (arith, suc-mul n w))) (All-drop (λ y. y < 256) w xs b) in

@@ -1,7 +1,7 @@
 -- The laws of keys, quorums, paths and flags. Assumes nothing.
 use Rattle.std.proofs.Common.{◌≡◌, ℕ, ◌*◌, ◌^◌, ◌<◌, Bool, true, false, cond, eqb, List, ◌++◌, length, Ok, Err, Result, sym, refl, ap, ◌∙◌, subst, arith}
 use Rattle.std.specs.Simd.{first_chunks}
-use Rattle.std.specs.List.{flat_map, AllByRecursion as All}
+use Rattle.std.specs.List.{flat_map, AllByRecursion}
 use Rattle.std.proofs.lemmas.Bool.{eqb-true}
 use Rattle.model.specs.declared.fault.Fault.{Fault}
 use Rattle.model.specs.declared.fault.Fault.TheVariants.{Malformed, OutOfRange}
@@ -28,7 +28,7 @@ Small s = s < 256 ^ 2
 
 pub lawful-steps : (n : ℕ) → Lawful (steps n)
 lawful-steps n =
-    lawful-recoded (n * 2) (λ bs. steps_of (first_chunks 2 n bs)) (λ ss. flat_map (bytes_of 2) ss) (λ ss. (length ss ≡ n) × All Small ss)
+    lawful-recoded (n * 2) (λ bs. steps_of (first_chunks 2 n bs)) (λ ss. flat_map (bytes_of 2) ss) (λ ss. (length ss ≡ n) × AllByRecursion Small ss)
     (λ ss f. length-joined 2 big_endian (bytes_of 2) Small (length-bytes_of 2) (back-again 2) (once_more 2) ss ∙ ap (λ m. m * 2) f.0)
     (λ ss f. ap (λ m. steps_of (first_chunks 2 m (flat_map (bytes_of 2) ss))) (sym f.0) ∙ chunked-joined 2 big_endian (bytes_of 2) Small (length-bytes_of 2) (back-again 2) (once_more 2) ss f.1)
     (λ bs h b. let j = joined-chunked 2 big_endian (bytes_of 2) Small (length-bytes_of 2) (back-again 2) (once_more 2) n bs h b in (j.0, (j.1, j.2)))

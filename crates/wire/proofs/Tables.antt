@@ -1,6 +1,6 @@
 -- What a loop that reads a table keeps, and the laws of tables. Assumes nothing.
 use Rattle.std.proofs.Common.{◌≡◌, ℕ, zero, suc, ◌+◌, ◌-◌, ◌<◌, ◌≤◌, Bool, true, false, cond, List, [], ◌∷◌, ◌++◌, length, Some, None, Ok, Err, Option, Result, sym, refl, ap, ◌∙◌, subst, append_assoc, append-nil, arith}
-use Rattle.std.specs.List.{flat_map, AllByRecursion as All}
+use Rattle.std.specs.List.{flat_map, AllByRecursion}
 use Rattle.model.specs.declared.fault.Fault.{Fault}
 use Rattle.model.specs.declared.fault.Fault.TheVariants.{OutOfOrder}
 use Rattle.wire.specs.Formats.{Format, Lawful, Bytes, and_then}
@@ -72,7 +72,7 @@ module _ {A K : Type 0} (f : Format A) (key : A → K) (below : K → K → Bool
       ∙ ap (λ (p : List A × List ℕ). p.0) (same_ok j.2)
 
   abbrev Law : Option K → ℕ → List A → Type 0
-  Law last n xs = (length xs ≡ n) × All f.Wf xs × (rises f key below last xs ≡ true)
+  Law last n xs = (length xs ≡ n) × AllByRecursion f.Wf xs × (rises f key below last xs ≡ true)
 
   abbrev Once : Option K → ℕ → List ℕ → List A × List ℕ → Type 0
   Once last n bs p = (flat_map f.write p.0 ++ p.1 ≡ bs) × Law last n p.0 × Bytes p.1

@@ -1,7 +1,7 @@
 -- What is read from bytes and written to them. A format is a reader, a writer, and which values it is for. Assumes nothing.
 use Rattle.std.specs.Prelude.{◌≡◌, ℕ, ◌<◌, Bool, true, cond, List, ◌++◌, Some, None, Ok, Err, Option, Result}
 use Rattle.std.specs.Borrow.{Bor}
-use Rattle.std.specs.List.{AllByRecursion as All}
+use Rattle.std.specs.List.{AllByRecursion}
 use Rattle.model.specs.declared.fault.Fault.{Fault}
 use Rattle.model.specs.declared.fault.Fault.TheVariants.{Malformed}
 
@@ -17,7 +17,7 @@ pub record Format (A : Type 0) : Type 1 where
   pub Wf : A → Type 0
 
 abbrev pub Bytes : List ℕ → Type 0
-Bytes bs = All (λ b. b < 256) bs
+Bytes bs = AllByRecursion (λ b. b < 256) bs
 
 -- what is written is read back, and what is read is written as it was
 pub record Lawful {A : Type 0} (f : Format A) : Type 0 where

@@ -1,7 +1,7 @@
 -- Keys, quorums, paths and flags. Assumes nothing.
 use Rattle.std.specs.Prelude.{◌≡◌, ℕ, ◌*◌, ◌^◌, ◌<◌, Bool, true, false, cond, ◌&&◌, List, [], ◌∷◌, map, length, Ok, Err, ◌==◌, nat_le, nat_lt}
 use Rattle.std.specs.Simd.{first_chunks}
-use Rattle.std.specs.List.{flat_map, AllByRecursion as All}
+use Rattle.std.specs.List.{flat_map, AllByRecursion}
 use Rattle.model.specs.declared.fault.Fault.TheVariants.{Malformed, OutOfRange}
 use Rattle.model.specs.Metadata.{Key, Steps, Quorum}
 use Rattle.wire.specs.Formats.{Format, and_then, pair, only, mapped}
@@ -35,7 +35,7 @@ steps_of ps = map big_endian ps
 
 -- n steps of two bytes
 abbrev pub steps : ℕ → Format Steps
-steps n = recoded (n * 2) (λ bs. steps_of (first_chunks 2 n bs)) (λ ss. flat_map (bytes_of 2) ss) (λ ss. (length ss ≡ n) × All (λ s. s < 256 ^ 2) ss)
+steps n = recoded (n * 2) (λ bs. steps_of (first_chunks 2 n bs)) (λ ss. flat_map (bytes_of 2) ss) (λ ss. (length ss ≡ n) × AllByRecursion (λ s. s < 256 ^ 2) ss)
 
 -- low to 8 steps, behind their count
 abbrev pub stepped : ℕ → Format Steps

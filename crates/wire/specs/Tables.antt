@@ -1,6 +1,6 @@
 -- Tables: so many items, each above the one before it. Assumes nothing.
 use Rattle.std.specs.Prelude.{◌≡◌, ℕ, zero, suc, Bool, true, false, cond, List, [], ◌∷◌, length, Some, None, Ok, Err, Option, Result}
-use Rattle.std.specs.List.{flat_map, AllByRecursion as All}
+use Rattle.std.specs.List.{flat_map, AllByRecursion}
 use Rattle.model.specs.declared.fault.Fault.{Fault}
 use Rattle.model.specs.declared.fault.Fault.TheVariants.{OutOfOrder}
 use Rattle.wire.specs.Formats.{Format, and_then}
@@ -27,7 +27,7 @@ module _ {A K : Type 0} (f : Format A) (key : A → K) (below : K → K → Bool
   rising n = record {
     read = read_rising None n;
     write = λ xs. flat_map f.write xs;
-    Wf = λ xs. (length xs ≡ n) × All f.Wf xs × (rises None xs ≡ true);
+    Wf = λ xs. (length xs ≡ n) × AllByRecursion f.Wf xs × (rises None xs ≡ true);
   }
 
 -- a table of n items in any order

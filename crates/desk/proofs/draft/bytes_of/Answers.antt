@@ -1,4 +1,4 @@
-use Rattle.std.proofs.Common.{◌≡◌, Bool, true, T, sym, ◌∙◌, subst}
+use Rattle.std.proofs.Common.{Bool, T, sym, ◌∙◌, subst}
 use Rattle.model.proofs.Same.{bytes}
 use Rattle.metadata.specs.Views.{metadata_of}
 use Rattle.desk.proofs.draft.bytes_of.Goals as goal

@@ -1,5 +1,5 @@
 use Rattle.std.proofs.Common.{◌≡◌, ℕ, List, [], ◌∷◌, ◌++◌, length, vec_items, decimal, sym, refl, ap, ◌∙◌, subst, append_assoc, append-nil}
-use Rattle.std.specs.List.{AllByRecursion as All}
+use Rattle.std.specs.List.{AllByRecursion}
 use Rattle.std.proofs.ByRecursion.{All-from_get_or}
 use Rattle.std.proofs.lemmas.List.{nil_from_length}
 use Rattle.wire.specs.Numbers.{big_endian}
@@ -27,7 +27,7 @@ more out marked after mark n left step rest e b m a =
 pub loop-step-preserved : goal.loop-step-preserved
 loop-step-preserved c =
     let e = c.in-Some.ensures.cases.0 in
-    let a = subst (λ (l : List (List ℕ)). All Two l) e c.loop-step.invariant.1 in
+    let a = subst (λ (l : List (List ℕ)). AllByRecursion Two l) e c.loop-step.invariant.1 in
     let n : big_endian c.in-Some.step.now ≡ c.from.result = two c.in-Some.step.now a.0 ∙ (sym c.from_be_bytes.ensures ∙ sym c.from.ensures) in (
       more (vec_items c.loop-step.out) (vec_items c.push.new.self) (vec_items c.push_decimal.new.out) c.loop-step.mark c.from.result c.loop-step.left.now c.in-Some.step.now c.in-Some.rest.now e n
           c.in_ok-push.ensures.items c.in_ok-push_decimal.ensures ∙ c.loop-step.invariant.0,

@@ -1,5 +1,5 @@
 use Rattle.std.proofs.Common.{◌≡◌, ℕ, not, List, [], ◌∷◌, length, sym, refl, ap, ◌∙◌, subst}
-use Rattle.std.specs.List.{AllByRecursion as All}
+use Rattle.std.specs.List.{AllByRecursion}
 use Rattle.std.proofs.ByRecursion.{All-from_get_or}
 use Rattle.wire.proofs.Numbers.{two}
 use Rattle.wire.proofs.Paths.{second-ends, first_ends, steps-differ, steps-same}
@@ -8,8 +8,8 @@ use Rattle.wire.proofs.path.path_below.Goals as goal
 abbrev Two : List ℕ → Type 0
 Two p = length p ≡ 2
 
-parts : (left : List (List ℕ)) (x : List ℕ) (xs : List (List ℕ)) → left ≡ x ∷ xs → All Two left → Two x × All Two xs
-parts left x xs e a = let b = subst (λ (l : List (List ℕ)). All Two l) e a in (b.0, b.1)
+parts : (left : List (List ℕ)) (x : List ℕ) (xs : List (List ℕ)) → left ≡ x ∷ xs → AllByRecursion Two left → Two x × AllByRecursion Two xs
+parts left x xs e a = let b = subst (λ (l : List (List ℕ)). AllByRecursion Two l) e a in (b.0, b.1)
 
 pub loop-x-init : goal.loop-x-init
 loop-x-init c = (refl, All-from_get_or Two c.args.a.now [] c.told-a, All-from_get_or Two c.args.b.now [] c.told-b)

@@ -1,5 +1,5 @@
 use Rattle.std.proofs.Common.{◌≡◌, length}
-use Rattle.std.specs.List.{AllByRecursion as All}
+use Rattle.std.specs.List.{AllByRecursion}
 use Rattle.wire.specs.Leaves.{below, steps_of}
 use Rattle.wire.proofs.path.path_below.Given as goal
 
@@ -7,7 +7,7 @@ use Rattle.wire.proofs.path.path_below.Given as goal
 abbrev pub invariant-loop-x : goal.invariant-loop-x
 invariant-loop-x l =
     (below (steps_of l.left) (steps_of l.right) ≡ below (steps_of l.a) (steps_of l.b)) ×
-    All (λ p. length p ≡ 2) l.left × All (λ p. length p ≡ 2) l.right
+    AllByRecursion (λ p. length p ≡ 2) l.left × AllByRecursion (λ p. length p ≡ 2) l.right
 
 abbrev pub decreases-loop-x : goal.decreases-loop-x
 decreases-loop-x l = length l.left
