@@ -1,4 +1,6 @@
 //! The program `box`: reads a stream of items from standard input and prints one line for each.
+#![tactic(auto)]
+
 use device::run::run;
 use std::io::Read;
 

@@ -1,4 +1,6 @@
 //! The program `desk`: papers as text and bytes, from standard input to standard output.
+#![tactic(auto)]
+
 use anyhow::anyhow;
 use desk::check_bytes;
 use desk::draft::bytes_of;

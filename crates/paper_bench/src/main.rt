@@ -1,4 +1,6 @@
 //! Measures how long a paper from standard input takes to read, beside its SHA-256. `bench/reading.sh` runs it.
+#![tactic(auto)]
+
 use digest::sha256;
 use metadata::paper::metadata_in;
 use std::io;

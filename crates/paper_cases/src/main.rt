@@ -1,6 +1,8 @@
 //! Reads papers from standard input, good and damaged, and prints for each its kind and number, or the number of its fault.
 //! A good paper's text has to give its bytes again.
 //! Each paper stands behind its length in four bytes, high byte first. `make.py` writes the input and what is expected.
+#![tactic(auto)]
+
 ghost use Rattle.wire.specs.Formats.{and_then, Cuts};
 ghost use Rattle.wire.specs.Numbers.{block, number};
 

@@ -1,4 +1,6 @@
 // Prints the SHA-256 digest of standard input, in hexadecimal. `bench/sha256.sh` measures it.
+#![tactic(auto)]
+
 use digest::Sha256;
 use std::io;
 use std::io::Read;

@@ -1,6 +1,8 @@
 // Prints SHA-256 digests of test messages. A line of standard input is `COUNT HEX`: the message is the bytes HEX, COUNT times over, as
 // `1000000 61` for a million times 'a' and `0 00` for the empty message. For each line, one line of standard output has the digest in
 // hexadecimal. A message with the count 1 is hashed as a whole, any other in COUNT parts. `make.py` wrote this crate's `stdin` and `stdout`.
+#![tactic(auto)]
+
 ghost use Rattle.std.specs.Prelude.{◌≡◌, ℕ, ◌<◌, MatchOption, ◌≢◌};
 ghost use Rattle.digest.specs.Sha256.{sha256 as sha256_of};
 ghost use Rattle.sha256_vectors.specs.Messages.{hex_digit, repeated};

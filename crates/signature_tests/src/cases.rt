@@ -42,10 +42,11 @@ fn part_of(heap: Global, items: &[(u8, u8)]) -> Result<Vec<u8>, AllocError> {
     Ok(bytes)
 }
 
-/// Which of the keys 1, 2 and 3 are counted, and whether two of them are.
+/// Which of the keys 1, 2 and 3 are counted, and whether two of them are; `case` says what is tried.
 fn expect(
     rt: &impl Abort,
     heap: Global,
+    case: &str,
     items: &[(u8, u8)],
     counted: &[u8],
     enough: bool,
@@ -54,38 +55,54 @@ fn expect(
     let Ok((signatures, rest)) = read_signatures(&bytes) else {
         return Err(Fail::new("the part is malformed"));
     };
-    assert!(rt; rest.is_empty());
+    assert!(rt; rest.is_empty(), "{case}");
     let quorum = Quorum {
         threshold: 2,
         keys: &[[1; 32], [2; 32], [3; 32]],
     };
     let found = count(heap, &StandIn, quorum, MESSAGE, signatures)?;
-    assert_eq!(rt; found.signatures.len(), counted.len());
+    assert_eq!(rt; found.signatures.len(), counted.len(), "{case}");
     for (signature, key) in found.signatures.iter().zip(counted) {
-        assert_eq!(rt; signature[31], *key);
+        assert_eq!(rt; signature[31], *key, "{case}");
     }
-    assert_eq!(rt; found.enough, enough);
-    assert_eq!(rt; is_enough(&StandIn, quorum, MESSAGE, signatures), enough);
+    assert_eq!(rt; found.enough, enough, "{case}");
+    assert_eq!(rt;
+        is_enough(&StandIn, quorum, MESSAGE, signatures),
+        enough,
+        "{case}"
+    );
     Ok(())
 }
 
 #[test]
 fn a_key_counts_once(rt: HostRuntime) -> Result<(), Fail> {
     let heap = rt.alloc();
-    expect(&rt, heap, &[(1, 1)], &[1], false).note("one key")?;
-    expect(&rt, heap, &[(1, 1), (1, 1)], &[1], false).note("one key twice")?;
-    expect(&rt, heap, &[(1, 1); 255], &[1], false).note("one key 255 times")?;
-    expect(&rt, heap, &[(3, 3), (1, 1), (3, 3)], &[1, 3], true).note("two keys, in rising order")
+    expect(&rt, heap, "one key", &[(1, 1)], &[1], false)?;
+    expect(&rt, heap, "one key twice", &[(1, 1), (1, 1)], &[1], false)?;
+    expect(&rt, heap, "one key 255 times", &[(1, 1); 255], &[1], false)?;
+    expect(
+        &rt,
+        heap,
+        "two keys, in rising order",
+        &[(3, 3), (1, 1), (3, 3)],
+        &[1, 3],
+        true,
+    )
 }
 
 #[test]
 fn only_right_signatures_of_the_quorum_count(rt: HostRuntime) -> Result<(), Fail> {
     let heap = rt.alloc();
-    expect(&rt, heap, &[], &[], false).note("no signatures")?;
-    expect(&rt, heap, &[(1, 2), (2, 1)], &[], false).note("wrong keys")?;
-    expect(&rt, heap, &[(8, 8), (9, 9)], &[], false).note("other keys")?;
-    expect(&rt, heap, &[(1, 2), (2, 2), (1, 1)], &[1, 2], true).note(
+    expect(&rt, heap, "no signatures", &[], &[], false)?;
+    expect(&rt, heap, "wrong keys", &[(1, 2), (2, 1)], &[], false)?;
+    expect(&rt, heap, "other keys", &[(8, 8), (9, 9)], &[], false)?;
+    expect(
+        &rt,
+        heap,
         "a wrong one before the right one",
+        &[(1, 2), (2, 2), (1, 1)],
+        &[1, 2],
+        true,
     )
 }
 

@@ -1,4 +1,4 @@
-use Rattle.std.proofs.Common.{◌≡◌, ℕ, sym, ap, ◌∙◌, add-one, arith}
+use Rattle.std.proofs.Common.{◌≡◌, ℕ, ap, ◌∙◌, add-one, arith}
 use Rattle.digest.specs.Sha256.{sha256}
 use Rattle.sha256_vectors.specs.Messages.{repeated}
 use Rattle.sha256_vectors.proofs.digest_of.Goals as goal
