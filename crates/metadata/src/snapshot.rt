@@ -1,5 +1,5 @@
 //! Snapshots: which version of each role's targets is the newest.
-ghost use Rattle.std.specs.Prelude.{◌≡◌, ◌+◌, [], ◌∷◌, MatchOption, nat_lt};
+ghost use Rattle.std.specs.Prelude.{◌≡◌, ◌+◌, [], ◌∷◌, length, MatchOption, nat_lt};
 ghost use Rattle.wire.specs.Formats.{Reads};
 ghost use Rattle.wire.specs.Tables.{follows};
 ghost use Rattle.metadata.specs.Papers.{meta as meta_f, metas as metas_f, snapshot as snapshot_f};
@@ -60,6 +60,19 @@ impl<'a> Metas<'a> {
             )),
             Err(_) => None,
         }
+    }
+
+    /// How many there are.
+    pub fn len(self) -> u16
+        ensures { result ≡ length (metas_of self.entry) }
+    {
+        let mut left = self;
+        let mut count = 0;
+        while let Some((_, rest)) = left.split_first() {
+            count += 1;
+            left = rest;
+        }
+        count
     }
 }
 

@@ -1,5 +1,5 @@
 //! Targets: a role's files, and the roles that it delegates to.
-ghost use Rattle.std.specs.Prelude.{◌≡◌, ◌+◌, [], ◌∷◌, MatchOption};
+ghost use Rattle.std.specs.Prelude.{◌≡◌, ◌+◌, [], ◌∷◌, length, MatchOption};
 ghost use Rattle.wire.specs.Formats.{Reads};
 ghost use Rattle.metadata.specs.Papers.{file as file_f, files as files_f, delegation as delegation_f, delegations as delegations_f, targets as targets_f};
 ghost use Rattle.metadata.specs.Views.{file_of, files_of, delegation_of, delegations_of, targets_of};
@@ -92,6 +92,19 @@ impl<'a> Files<'a> {
             Err(_) => None,
         }
     }
+
+    /// How many there are.
+    pub fn len(self) -> u16
+        ensures { result ≡ length (files_of self.entry) }
+    {
+        let mut left = self;
+        let mut count = 0;
+        while let Some((_, rest)) = left.split_first() {
+            count += 1;
+            left = rest;
+        }
+        count
+    }
 }
 
 /// So many files, in rising order of their paths.
@@ -147,6 +160,19 @@ impl<'a> Delegations<'a> {
             )),
             Err(_) => None,
         }
+    }
+
+    /// How many there are.
+    pub fn len(self) -> u8
+        ensures { result ≡ length (delegations_of self.entry) }
+    {
+        let mut left = self;
+        let mut count = 0;
+        while let Some((_, rest)) = left.split_first() {
+            count += 1;
+            left = rest;
+        }
+        count
     }
 }
 

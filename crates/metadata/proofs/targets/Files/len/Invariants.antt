@@ -1,6 +1,6 @@
 use Rattle.std.proofs.Common.{◌≡◌, ◌+◌, length}
-use Rattle.targets.specs.Views.{files_of}
-use Rattle.targets.proofs.Files.len.Given as goal
+use Rattle.metadata.specs.Views.{files_of}
+use Rattle.metadata.proofs.targets.Files.len.Given as goal
 
 abbrev pub invariant-loop-rest : goal.invariant-loop-rest
 invariant-loop-rest l = (l.count + length (files_of l.left) ≡ length (files_of l.self)) × (l.count + l.left.count ≡ l.self.count)
