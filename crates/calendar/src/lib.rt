@@ -1,4 +1,6 @@
 //! The days of a box, which pass one by one.
+#![tactic(auto)]
+
 ghost use Rattle.std.specs.Prelude.{◌≡◌, Some as Fails, None as Passes, MatchResult};
 ghost use Rattle.model.specs.Run.{day_fault};
 

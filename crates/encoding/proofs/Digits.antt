@@ -1,5 +1,5 @@
 -- The bytes of a number, one by one. Assumes nothing.
-use Rattle.std.proofs.Common.{◌≡◌, ℕ, ◌/◌, ◌%◌, ◌<◌, List, [], ◌∷◌, refl, ap, arith}
+use Rattle.std.proofs.Common.{◌≡◌, ℕ, ◌/◌, ◌%◌, ◌<◌, [], ◌∷◌, refl, ap, arith}
 use Rattle.wire.specs.Numbers.{bytes_of}
 
 pub one_byte : (x : ℕ) → x < 256 → bytes_of 1 x ≡ x ∷ []

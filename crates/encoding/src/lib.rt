@@ -1,2 +1,4 @@
 //! The leaves of papers, written behind what a vector holds.
+#![tactic(auto)]
+
 pub mod leaf;

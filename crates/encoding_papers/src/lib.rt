@@ -1,2 +1,4 @@
 //! The bytes of the four papers, written from their views.
+#![tactic(auto)]
+
 pub mod paper;

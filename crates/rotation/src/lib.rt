@@ -1,4 +1,6 @@
 //! New roots: which one may follow the present one, and what it makes forgotten.
+#![tactic(auto)]
+
 ghost use Rattle.std.specs.Prelude.{[], ◌∷◌, ◌≡◌, ◌+◌, eqb};
 ghost use Rattle.model.specs.Taking.{first_fault, must, stays as stays_of};
 ghost use Rattle.model.specs.declared.fault.Fault.TheVariants.{NotEnough, NotNext};

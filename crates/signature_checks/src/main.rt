@@ -1,4 +1,6 @@
 //! Prints a line for each check that counting makes, so that its output shows what is checked, and that nothing is checked twice.
+#![tactic(auto)]
+
 ghost use Rattle.std.specs.Prelude.{false};
 ghost use Rattle.std.proofs.Common.{rules};
 

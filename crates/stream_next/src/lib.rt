@@ -1,4 +1,6 @@
 //! The items of a stream: offers, days, asks and installs, cut into their parts, which are parts of the same bytes.
+#![tactic(auto)]
+
 ghost use Rattle.wire.specs.Formats.{Reads, Cuts};
 ghost use Rattle.wire.specs.Numbers.{block};
 ghost use Rattle.stream_next.specs.Items.{item_in, offer_in, ask_in, install_in};

@@ -1,5 +1,4 @@
 use Rattle.std.proofs.Common.{◌≡◌, eqb}
-use Rattle.std.specs.Option.{option_map}
 use Rattle.model.specs.Lists.{first}
 use Rattle.model.specs.Metadata.{Delegation}
 use Rattle.metadata.specs.Views.{delegations_of}
