@@ -1,7 +1,6 @@
 -- AllByRecursion that the journal holds of papers is bytes. Assumes nothing.
-use Rattle.std.proofs.Common.{◌≡◌, ℕ, ◌<◌, Bool, true, ◌&&◌, ltb, List, [], ◌∷◌, map, vec_items, sym, refl, ap, subst}
+use Rattle.std.proofs.Common.{◌≡◌, ℕ, true, ltb, List, [], ◌∷◌, map, vec_items, refl}
 use mathlib.Core.List.{Memᴰ}
-use Rattle.std.specs.List.{AllByRecursion}
 use Rattle.std.proofs.lemmas.Bool.{ltb-true, lt-ltb, and_parts, and_from}
 use Rattle.model.specs.Metadata.{Quorum}
 use Rattle.model.proofs.ListFacts.{cons-all}

@@ -1,5 +1,5 @@
 -- Places in the table of quorums. Assumes nothing.
-use Rattle.std.proofs.Common.{◌≡◌, ℕ, zero, suc, ◌+◌, ◌-◌, ◌<◌, ◌≤◌, Bool, true, false, cond, not, ◌&&◌, ◌||◌, T, eqb, ltb, leb, List, [], ◌∷◌, ◌++◌, map, length, get_or, drop, vec_items, sym, refl, ap, ◌∙◌, subst, true≢false, arith}
+use Rattle.std.proofs.Common.{◌≡◌, ℕ, suc, ◌+◌, ◌-◌, ◌<◌, ◌≤◌, Bool, true, false, cond, not, ◌&&◌, ◌||◌, T, eqb, ltb, leb, List, [], ◌∷◌, ◌++◌, map, length, get_or, drop, vec_items, sym, refl, ap, ◌∙◌, subst, true≢false, arith}
 use Rattle.std.proofs.lemmas.List.{at_drop_more, at_drop_all, length-append, get_or_append_left}
 use Rattle.std.proofs.lemmas.Bool.{eqb-true, ltb-true, leb-true, leb-false, eq-eqb, ne_eqb, le-leb, lt-leb, lt-ltb, and_parts, and_from}
 use Rattle.model.specs.Lists.{all, any, count}

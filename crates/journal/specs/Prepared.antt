@@ -1,7 +1,6 @@
 -- A quorum gets a place in the table before an entry names it. Assumes nothing.
 use Rattle.std.specs.Prelude.{◌≡◌, ℕ, true, List, ◌++◌, vec_items}
 use Rattle.model.specs.Metadata.{Quorum}
-use Rattle.journal.specs.Notes.{Note}
 use Rattle.journal.specs.Table.{rows_of, is_first, quorum_at, note_of}
 use Rattle.journal.specs.declared.entry.Entry.{Entry}
 use Rattle.journal.specs.declared.journal.Journal.{Journal}

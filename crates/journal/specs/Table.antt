@@ -1,5 +1,5 @@
 -- Each quorum stands once in a table, and entries name its place. Assumes nothing.
-use Rattle.std.specs.Prelude.{ℕ, zero, suc, Bool, true, false, cond, ◌&&◌, List, [], ◌∷◌, map, length, vec_items, ◌==◌, nat_lt, slice_index_or}
+use Rattle.std.specs.Prelude.{ℕ, suc, Bool, true, cond, ◌&&◌, List, [], ◌∷◌, map, length, vec_items, ◌==◌, nat_lt, slice_index_or}
 use Rattle.model.specs.Metadata.{Quorum}
 use Rattle.model.specs.Same.{same_quorums}
 use Rattle.journal.specs.Notes.{Note}

@@ -1,4 +1,4 @@
-use Rattle.std.proofs.Common.{◌≡◌, Bool, true, false, ◌&&◌, eqb, vec_items, sym, refl, ap, ◌∙◌}
+use Rattle.std.proofs.Common.{Bool, false, ◌&&◌, eqb, vec_items, sym, refl, ap, ◌∙◌}
 use Rattle.std.proofs.lemmas.Bool.{and_right}
 use Rattle.journal.proofs.Places.{other-mark}
 use Rattle.journal.proofs.entry.Entry.is.Goals as goal

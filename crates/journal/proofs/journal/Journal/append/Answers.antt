@@ -1,4 +1,4 @@
-use Rattle.std.proofs.Common.{◌≡◌, true, List, map, is_ok, vec_items, sym, refl, ap, ◌∙◌, subst, rules}
+use Rattle.std.proofs.Common.{◌≡◌, true, List, map, is_ok, vec_items, sym, ap, ◌∙◌, subst, rules}
 use Rattle.wire.specs.Views.{quorum_of}
 use Rattle.journal.specs.Table.{rows_of, all_first, note_of}
 use Rattle.journal.specs.declared.entry.Entry.{Entry}
@@ -14,7 +14,7 @@ pub invariant_of-self : goal.invariant_of-self
 invariant_of-self c =
     let k = c.place_for.new.self in
     let rows = rows_of (vec_items k.rows) in
-    (subst (λ (l : List Entry). all_first rows l ≡ true) (sym c.push.ensures.items) (pushed-first (is_ok c.push.result) rows (vec_items k.entries) c.in_ok-entry.entry c.in_ok-at.at k.placed c.in_ok-at.ensures.placed c.in_ok-entry.ensures.place), tt)
+    record { placed = subst (λ (l : List Entry). all_first rows l ≡ true) (sym c.push.ensures.items) (pushed-first (is_ok c.push.result) rows (vec_items k.entries) c.in_ok-entry.entry c.in_ok-at.at k.placed c.in_ok-at.ensures.placed c.in_ok-entry.ensures.place) }
 
 pub returns-in_err-push : goal.returns-in_err-push
 returns-in_err-push c =

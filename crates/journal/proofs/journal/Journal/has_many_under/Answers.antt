@@ -1,4 +1,4 @@
-use Rattle.std.proofs.Common.{◌≡◌, ℕ, eqb, leb, vec_items, ap, ◌∙◌}
+use Rattle.std.proofs.Common.{ℕ, eqb, leb, vec_items, ap, ◌∙◌}
 use Rattle.model.specs.Lists.{count}
 use Rattle.wire.specs.Views.{quorum_of}
 use Rattle.journal.specs.Table.{rows_of}

@@ -1,4 +1,4 @@
-use Rattle.std.proofs.Common.{◌≡◌, List, [], ◌∷◌, ◌++◌, map, vec_items, sym, ap, ◌∙◌, rules}
+use Rattle.std.proofs.Common.{List, [], ◌∷◌, ◌++◌, map, vec_items, ap, ◌∙◌, rules}
 use Rattle.wire.specs.Views.{quorum_of}
 use Rattle.journal.specs.Table.{rows_of, note_of}
 use Rattle.journal.specs.declared.entry.Entry.{Entry}
@@ -36,12 +36,11 @@ returns-in_err-reserve c =
 pub invariant_of-self-2 : goal.invariant_of-self-2
 invariant_of-self-2 c =
     let l = c.place_for-2.new.self in
-    let both = placed-both c.args.self.now c.place_for.new.self l (quorum_of c.args.old.quorum) (quorum_of c.args.own.quorum) c.in_ok-place.place c.in_ok-other.other c.in_ok-place.ensures c.in_ok-other.ensures in (
-      two-first (rows_of (vec_items l.rows)) (vec_items l.entries) (vec_items c.push_reserved-2.new.self) c.in_ok-first.first c.in_ok-second.second c.in_ok-place.place c.in_ok-other.other l.placed both.placed
+    let both = placed-both c.args.self.now c.place_for.new.self l (quorum_of c.args.old.quorum) (quorum_of c.args.own.quorum) c.in_ok-place.place c.in_ok-other.other c.in_ok-place.ensures c.in_ok-other.ensures in record {
+      placed = two-first (rows_of (vec_items l.rows)) (vec_items l.entries) (vec_items c.push_reserved-2.new.self) c.in_ok-first.first c.in_ok-second.second c.in_ok-place.place c.in_ok-other.other l.placed both.placed
           c.in_ok-other.ensures.placed c.in_ok-first.ensures.place c.in_ok-second.ensures.place
-          (c.push_reserved-2.ensures.items ∙ ap (λ (x : List Entry). x ++ c.in_ok-second.second ∷ []) (c.push_reserved.ensures.items ∙ ap (λ (x : List Entry). x ++ c.in_ok-first.first ∷ []) c.reserve.ensures.items)),
-      tt,
-    )
+          (c.push_reserved-2.ensures.items ∙ ap (λ (x : List Entry). x ++ c.in_ok-second.second ∷ []) (c.push_reserved.ensures.items ∙ ap (λ (x : List Entry). x ++ c.in_ok-first.first ∷ []) c.reserve.ensures.items));
+    }
 
 pub returns : goal.returns
 returns c =

@@ -13,7 +13,7 @@ returns-then-at-as_slice c =
 pub invariant_of-self : goal.invariant_of-self
 invariant_of-self c =
     let j = c.args.self.now in
-    (subst (λ (l : List Row). all_first (rows_of l) (vec_items j.entries) ≡ true) (sym c.push.ensures.items) (grown-first (is_ok c.push.result) (vec_items j.rows) c.in_ok-row.row (vec_items j.entries) j.placed), tt)
+    record { placed = subst (λ (l : List Row). all_first (rows_of l) (vec_items j.entries) ≡ true) (sym c.push.ensures.items) (grown-first (is_ok c.push.result) (vec_items j.rows) c.in_ok-row.row (vec_items j.entries) j.placed) }
 
 pub returns : goal.returns
 returns c =

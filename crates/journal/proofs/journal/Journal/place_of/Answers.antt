@@ -1,4 +1,4 @@
-use Rattle.std.proofs.Common.{◌≡◌, ◌<◌, ◌≤◌, List, length, get_or, vec_items, sym, refl, ap, ◌∙◌, subst}
+use Rattle.std.proofs.Common.{◌<◌, ◌≤◌, List, length, get_or, vec_items, sym, refl, ap, ◌∙◌, subst}
 use Rattle.wire.specs.Views.{quorum_of}
 use Rattle.model.specs.Metadata.{Quorum}
 use Rattle.model.specs.Same.{same_quorums}

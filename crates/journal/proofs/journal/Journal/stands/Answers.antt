@@ -1,4 +1,4 @@
-use Rattle.std.proofs.Common.{◌≡◌, ℕ, ◌&&◌, eqb, vec_items, ap, ◌∙◌}
+use Rattle.std.proofs.Common.{ℕ, ◌&&◌, eqb, vec_items, ap, ◌∙◌}
 use Rattle.model.specs.Lists.{any}
 use Rattle.model.specs.Same.{same_list}
 use Rattle.wire.specs.Views.{quorum_of}
