@@ -13,7 +13,6 @@ use Rattle.signature.specs.Views.{signature_of}
 use Rattle.journal.specs.Notes.{Note}
 use Rattle.device_next.specs.Holding.{Held, Holding, signers_of}
 use Rattle.device_next.specs.Steps.{NoteBy, Settled, Stepped, root_in, root_faults, with_root, RootStep, targets_in, or_else, delegated_in}
-use Rattle.device_next.specs.declared.answer.Answer.{Answer}
 use Rattle.device_next.specs.declared.answer.Answer.TheVariants.{Taken, Refused}
 
 pub settled-refused : (r : Option Fault) (f : Fault) (new s : Holding) → r ≡ Some f → Settled r new s (Refused f) s

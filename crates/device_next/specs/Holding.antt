@@ -1,5 +1,5 @@
 -- What a device keeps, by its bytes, and the device of the law that this stands for. Assumes nothing.
-use Rattle.std.specs.Prelude.{ℕ, List, [], ◌∷◌, map, reverse, take, Ok, Err, Option, Result}
+use Rattle.std.specs.Prelude.{ℕ, List, [], map, reverse, take, Ok, Err, Option, Result}
 use Rattle.std.specs.Option.{option_map}
 use Rattle.model.specs.declared.fault.Fault.{Fault}
 use Rattle.model.specs.Metadata.{Key, Digest, Quorum, Root, Timestamp, Snapshot, Targets, Metadata, ARoot, ATimestamp, ASnapshot, ATargets, Signed}

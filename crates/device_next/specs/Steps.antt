@@ -1,5 +1,5 @@
 -- What an offer changes of what is kept, kind by kind. Assumes nothing.
-use Rattle.std.specs.Prelude.{◌≡◌, ℕ, ◌+◌, Bool, true, cond, not, List, [], ◌∷◌, ◌++◌, map, is_some, Some, None, Ok, Err, filter, Option, Result, ◌==◌, nat_eq}
+use Rattle.std.specs.Prelude.{◌≡◌, ℕ, ◌+◌, Bool, cond, not, List, [], ◌∷◌, ◌++◌, map, is_some, Some, None, Ok, Err, filter, Option, Result, ◌==◌, nat_eq}
 use Rattle.std.specs.Option.{option_map}
 use Rattle.model.specs.declared.fault.Fault.{Fault}
 use Rattle.model.specs.declared.fault.Fault.TheVariants.{NotEnough, NotNext, NotNewer, NotNamed, Regresses, NotListed, NotDelegated, Expired, Full}

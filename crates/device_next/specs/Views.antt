@@ -1,5 +1,5 @@
 -- What the code's device stands for. Assumes nothing.
-use Rattle.std.specs.Prelude.{ℕ, List, map, vec_items}
+use Rattle.std.specs.Prelude.{ℕ, map, vec_items}
 use Rattle.std.specs.Option.{option_map}
 use Rattle.journal.specs.Views.{notes_of}
 use Rattle.device_next.specs.Holding.{Held, Holding}

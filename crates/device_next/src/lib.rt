@@ -1,5 +1,8 @@
 //! The box: what it keeps, and what it makes of each offer and each day.
+#![tactic(auto)]
+
 pub mod answer;
+mod counted;
 pub mod kept;
 pub mod offer;
 pub mod read;

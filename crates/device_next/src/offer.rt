@@ -26,7 +26,7 @@ impl Device {
         paper: &[u8],
         signatures: Signatures<'_>,
     ) -> Result<Answer, AllocError>
-        ensures { MatchResult result (λ a. OfferStep (paper_in paper.entry.now) accepts (record { paper = paper.entry.now; signatures = signatures.entry.items.now }) (holding_of self.old) a (holding_of self.new)) (λ _. holding_of self.new ≡ holding_of self.old) }
+        ensures { MatchResult result (λ a. OfferStep (paper_in paper.entry.now) V.accepts (record { paper = paper.entry.now; signatures = signatures.entry.items.now }) (holding_of self.old) a (holding_of self.new)) (λ _. holding_of self.new ≡ holding_of self.old) }
     {
         match metadata_in(paper) {
             Ok(Metadata::Root(offered)) => {
@@ -54,9 +54,9 @@ impl Device {
         paper: &[u8],
         signatures: Signatures<'_>,
     ) -> Result<Answer, AllocError>
-        ensures bytes { MatchResult result (λ a. OfferStep (paper_in paper.entry.now) accepts (record { paper = paper.entry.now; signatures = signatures.entry.items.now }) (holding_of self.old) a (holding_of self.new)) (λ _. holding_of self.new ≡ holding_of self.old) }
-        ensures law { MatchResult result (λ a. offered_bytes accepts (record { paper = paper.entry.now; signatures = signatures.entry.items.now }) (device_of accepts (holding_of self.old)) ≡ outcome_of accepts a (holding_of self.new)) (λ _. device_of accepts (holding_of self.new) ≡ device_of accepts (holding_of self.old)) }
-        ensures promises { (first : Root) → Reached (world_of signed) first (device_of accepts (holding_of self.old)) → Promised (world_of signed) first (device_of accepts (holding_of self.old)) (device_of accepts (holding_of self.new)) }
+        ensures bytes { MatchResult result (λ a. OfferStep (paper_in paper.entry.now) V.accepts (record { paper = paper.entry.now; signatures = signatures.entry.items.now }) (holding_of self.old) a (holding_of self.new)) (λ _. holding_of self.new ≡ holding_of self.old) }
+        ensures law { MatchResult result (λ a. offered_bytes V.accepts (record { paper = paper.entry.now; signatures = signatures.entry.items.now }) (device_of V.accepts (holding_of self.old)) ≡ outcome_of V.accepts a (holding_of self.new)) (λ _. device_of V.accepts (holding_of self.new) ≡ device_of V.accepts (holding_of self.old)) }
+        ensures promises { (first : Root) → Reached (world_of V.signed) first (device_of V.accepts (holding_of self.old)) → Promised (world_of V.signed) first (device_of V.accepts (holding_of self.old)) (device_of V.accepts (holding_of self.new)) }
     {
         self.take(heap, verifier, paper, signatures)
     }

@@ -8,13 +8,13 @@ ghost use Rattle.device_next.specs.Steps.{root_faults, RootStep};
 ghost use Rattle.device_next.specs.Views.{holding_of};
 
 use crate::answer::Answer;
+use crate::counted::count;
 use crate::kept::Kept;
 use crate::state::Device;
 use journal::notes::Backing;
 use metadata::root::Root;
 use model::fault::Fault;
 use rotation::{root_fault, stays};
-use signature::counting::count;
 use signature::part::Signatures;
 use signature::verifier::Verifier;
 use std::alloc::{AllocError, Global};
@@ -44,7 +44,7 @@ impl Device {
         offered: Root<'_>,
     ) -> Result<Answer, AllocError>
         requires { paper_in paper.now ≡ Reads (ARoot (root_of offered)) }
-        ensures { MatchResult result (λ a. RootStep accepts (record { paper = paper.entry.now; signatures = signatures.entry.items.now }) (root_of offered.entry) (holding_of self.old) a (holding_of self.new)) (λ _. holding_of self.new ≡ holding_of self.old) }
+        ensures { MatchResult result (λ a. RootStep V.accepts (record { paper = paper.entry.now; signatures = signatures.entry.items.now }) (root_of offered.entry) (holding_of self.old) a (holding_of self.new)) (λ _. holding_of self.new ≡ holding_of self.old) }
     {
         let old = count(heap, verifier, self.root.root().root, paper, signatures)?;
         let own = count(heap, verifier, offered.root, paper, signatures)?;

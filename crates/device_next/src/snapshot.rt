@@ -8,6 +8,7 @@ ghost use Rattle.device_next.specs.Steps.{snapshot_faults, SnapshotStep};
 ghost use Rattle.device_next.specs.Views.{holding_of};
 
 use crate::answer::Answer;
+use crate::counted::count;
 use crate::kept::Kept;
 use crate::sift::keep_listed;
 use crate::state::Device;
@@ -15,7 +16,6 @@ use digest::sha256;
 use journal::notes::Backing;
 use metadata::snapshot::Snapshot;
 use model::fault::Fault;
-use signature::counting::count;
 use signature::part::Signatures;
 use signature::verifier::Verifier;
 use std::alloc::{AllocError, Global};
@@ -54,7 +54,7 @@ impl Device {
         offered: Snapshot<'_>,
     ) -> Result<Answer, AllocError>
         requires { paper_in paper.now ≡ Reads (ASnapshot (snapshot_of offered)) }
-        ensures { MatchResult result (λ a. SnapshotStep accepts (record { paper = paper.entry.now; signatures = signatures.entry.items.now }) (snapshot_of offered.entry) (holding_of self.old) a (holding_of self.new)) (λ _. holding_of self.new ≡ holding_of self.old) }
+        ensures { MatchResult result (λ a. SnapshotStep V.accepts (record { paper = paper.entry.now; signatures = signatures.entry.items.now }) (snapshot_of offered.entry) (holding_of self.old) a (holding_of self.new)) (λ _. holding_of self.new ≡ holding_of self.old) }
     {
         let counted = count(heap, verifier, self.root.root().snapshot, paper, signatures)?;
         if let Some(fault) = self.judge_snapshot(offered, paper, counted.enough) {

@@ -11,6 +11,7 @@ ghost use Rattle.device_next.specs.Steps.{snapshot_in, delegated_in, asked_for, 
 ghost use Rattle.device_next.specs.Views.{holding_of};
 
 use crate::answer::Answer;
+use crate::counted::count;
 use crate::kept::Kept;
 use crate::sift::drop_role;
 use crate::state::Device;
@@ -18,7 +19,6 @@ use journal::notes::Backing;
 use journal::row::Row;
 use metadata::targets::Targets;
 use model::fault::Fault;
-use signature::counting::count;
 use signature::part::Signatures;
 use signature::verifier::Verifier;
 use std::alloc::{AllocError, Global};
@@ -91,7 +91,7 @@ impl Device {
         offered: Targets<'_>,
     ) -> Result<Answer, AllocError>
         requires { paper_in paper.now ≡ Reads (ATargets (targets_of offered)) }
-        ensures { MatchResult result (λ a. TargetsStep accepts (record { paper = paper.entry.now; signatures = signatures.entry.items.now }) (targets_of offered.entry) (holding_of self.old) a (holding_of self.new)) (λ _. holding_of self.new ≡ holding_of self.old) }
+        ensures { MatchResult result (λ a. TargetsStep V.accepts (record { paper = paper.entry.now; signatures = signatures.entry.items.now }) (targets_of offered.entry) (holding_of self.old) a (holding_of self.new)) (λ _. holding_of self.new ≡ holding_of self.old) }
     {
         let Some(asked) = self.copy_quorum(heap, offered.role)? else {
             if is_current(self.snapshot(), offered) {

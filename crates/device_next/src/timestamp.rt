@@ -8,12 +8,12 @@ ghost use Rattle.device_next.specs.Steps.{timestamp_faults, TimestampStep};
 ghost use Rattle.device_next.specs.Views.{holding_of};
 
 use crate::answer::Answer;
+use crate::counted::count;
 use crate::kept::Kept;
 use crate::state::Device;
 use journal::notes::Backing;
 use metadata::timestamp::Timestamp;
 use model::fault::Fault;
-use signature::counting::count;
 use signature::part::Signatures;
 use signature::verifier::Verifier;
 use std::alloc::{AllocError, Global};
@@ -44,7 +44,7 @@ impl Device {
         offered: Timestamp<'_>,
     ) -> Result<Answer, AllocError>
         requires { paper_in paper.now ≡ Reads (ATimestamp (timestamp_of offered)) }
-        ensures { MatchResult result (λ a. TimestampStep accepts (record { paper = paper.entry.now; signatures = signatures.entry.items.now }) (timestamp_of offered.entry) (holding_of self.old) a (holding_of self.new)) (λ _. holding_of self.new ≡ holding_of self.old) }
+        ensures { MatchResult result (λ a. TimestampStep V.accepts (record { paper = paper.entry.now; signatures = signatures.entry.items.now }) (timestamp_of offered.entry) (holding_of self.old) a (holding_of self.new)) (λ _. holding_of self.new ≡ holding_of self.old) }
     {
         let counted = count(
             heap,

@@ -38,7 +38,7 @@ pub fn run<V: Verifier>(
     device: &mut Device,
     bytes: &[u8],
 ) -> Result<Vec<Answer>, AllocError>
-    ensures { IfOk result (λ v. Runs accepts (device_of accepts (holding_of device.old)) bytes.now v.items (device_of accepts (holding_of device.new))) }
+    ensures { IfOk result (λ v. Runs V.accepts (device_of V.accepts (holding_of device.old)) bytes.now v.items (device_of V.accepts (holding_of device.new))) }
 {
     let mut answers = Vec::new(heap);
     let mut left = bytes;

@@ -1,4 +1,4 @@
-use Rattle.std.proofs.Common.{◌≡◌, ◌<◌, ◌≤◌, length, is_some, vec_items, sym, ap, ◌∙◌, arith}
+use Rattle.std.proofs.Common.{◌<◌, ◌≤◌, length, is_some, vec_items, sym, ap, ◌∙◌, arith}
 use Rattle.model.specs.Metadata.{Targets}
 use Rattle.model.specs.Taking.{version_in}
 use Rattle.metadata.specs.Views.{snapshot_of}

@@ -1,4 +1,4 @@
-use Rattle.std.proofs.Common.{◌≡◌, List, [], ◌∷◌, sym, ◌∙◌}
+use Rattle.std.proofs.Common.{[], ◌∷◌, sym, ◌∙◌}
 use Rattle.model.specs.declared.fault.Fault.TheVariants.{NotEnough, NotNamed, Regresses, Expired, Full}
 use Rattle.model.specs.Taking.{must, named, covers_kept, in_time}
 use Rattle.digest.specs.Sha256.{sha256}

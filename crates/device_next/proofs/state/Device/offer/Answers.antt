@@ -1,10 +1,10 @@
-use Rattle.std.proofs.Common.{◌≡◌, ℕ, ◌<◌, List, vec_items, ap, arith}
+use Rattle.std.proofs.Common.{ℕ, ◌<◌, vec_items, ap, arith}
 use Rattle.std.proofs.ByRecursion.{All-from_get_or}
 use Rattle.std.proofs.lemmas.Result.{MatchResult-weaker}
 use Rattle.wire.specs.Formats.{Bytes}
 use Rattle.journal.specs.Table.{rows_of}
 use Rattle.journal.proofs.Clean.{clean}
-use Rattle.device_next.specs.Holding.{Held, Holding, device_of}
+use Rattle.device_next.specs.Holding.{Held, device_of}
 use Rattle.device_next.specs.Views.{holding_of}
 use Rattle.device_next.proofs.ModelledReach.{offer-modelled, promised-offer}
 use Rattle.device_next.proofs.state.Device.offer.Goals as goal

@@ -1,13 +1,13 @@
-use Rattle.std.proofs.Common.{◌≡◌, List, [], ◌∷◌, ◌++◌, vec_items, sym, refl, ap, ◌∙◌}
+use Rattle.std.proofs.Common.{[], ◌∷◌, ◌++◌, vec_items, sym, refl, ap, ◌∙◌}
 use Rattle.model.specs.Metadata.{Root}
 use Rattle.model.specs.Taking.{stays}
 use Rattle.wire.specs.Views.{quorum_of}
 use Rattle.metadata.specs.Views.{root_of}
 use Rattle.journal.specs.Notes.{Note}
 use Rattle.journal.specs.Views.{note_for}
-use Rattle.device_next.specs.Holding.{Held, Holding}
+use Rattle.device_next.specs.Holding.{Held}
 use Rattle.device_next.specs.Steps.{root_in}
-use Rattle.device_next.specs.Views.{held_of, holding_of}
+use Rattle.device_next.specs.Views.{holding_of}
 use Rattle.device_next.proofs.Stepping.{root-refused, root-taken, note-same, holding-same, kept_if, not-kept}
 use Rattle.device_next.proofs.state.Device.offer_root.Goals as goal
 

@@ -1,10 +1,9 @@
-use Rattle.std.proofs.Common.{◌≡◌, Bool, List, map, Some, vec_items, sym, refl, ap, ◌∙◌}
+use Rattle.std.proofs.Common.{map, Some, vec_items, sym, refl, ap, ◌∙◌}
 use Rattle.model.specs.Metadata.{Root}
 use Rattle.journal.specs.Notes.{Note, noted_in}
-use Rattle.journal.specs.Views.{note_for}
 use Rattle.wire.specs.Views.{quorum_of}
 use Rattle.metadata.specs.Views.{snapshot_of}
-use Rattle.device_next.specs.Holding.{Held, Holding}
+use Rattle.device_next.specs.Holding.{Held}
 use Rattle.device_next.specs.Steps.{root_in, snapshot_faults, with_snapshot, listed}
 use Rattle.device_next.specs.Views.{held_of, holding_of}
 use Rattle.device_next.proofs.Sifting.{map-kept}

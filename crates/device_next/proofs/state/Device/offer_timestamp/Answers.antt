@@ -1,12 +1,11 @@
-use Rattle.std.proofs.Common.{◌≡◌, Bool, List, Some, vec_items, sym, refl, ap, ◌∙◌}
+use Rattle.std.proofs.Common.{Some, vec_items, sym, refl, ap, ◌∙◌}
 use Rattle.model.specs.Metadata.{Root}
 use Rattle.journal.specs.Notes.{Note, noted_in}
-use Rattle.journal.specs.Views.{note_for}
 use Rattle.wire.specs.Views.{quorum_of}
 use Rattle.metadata.specs.Views.{timestamp_of}
-use Rattle.device_next.specs.Holding.{Held, Holding}
+use Rattle.device_next.specs.Holding.{Held}
 use Rattle.device_next.specs.Steps.{root_in, timestamp_faults, with_timestamp}
-use Rattle.device_next.specs.Views.{held_of, holding_of}
+use Rattle.device_next.specs.Views.{holding_of}
 use Rattle.device_next.proofs.Stepping.{step-refused, step-taken, note-same, holding-same}
 use Rattle.device_next.proofs.state.Device.offer_timestamp.Goals as goal
 
