@@ -1,4 +1,7 @@
 //! The program `box`: a box that is made with a first root answers a stream of items, one line for each.
+#![tactic(auto)]
+
+use anyhow::anyhow;
 use device_next::answer::Answer;
 use device_next::state::Device;
 use running::run::{Line, run};
@@ -44,7 +47,7 @@ fn answer(rt: &HostRuntime) -> anyhow::Result<()> {
     let mut args = env::args(rt)?;
     let _program = args.next();
     match args.next() {
-        Some(word) if word == "--help" => {
+        Some(word) if word.as_str() == "--help" => {
             println!(rt; "{USAGE}")?;
             Ok(())
         }
@@ -53,7 +56,7 @@ fn answer(rt: &HostRuntime) -> anyhow::Result<()> {
             let stream = events(rt, args.next())?;
             serve(rt, &root, &stream)
         }
-        None => Err(USAGE.into()),
+        None => Err(anyhow!("{USAGE}")),
     }
 }
 

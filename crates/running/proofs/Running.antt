@@ -1,9 +1,8 @@
 -- The steps of a run. Assumes nothing.
-use Rattle.std.proofs.Common.{◌≡◌, ℕ, List, [], ◌∷◌, ◌++◌, map, Ok, Err, sym, refl, subst, append_assoc, append-nil, MutBor}
+use Rattle.std.proofs.Common.{◌≡◌, ℕ, List, [], ◌∷◌, ◌++◌, sym, refl, subst, append_assoc, append-nil, Bor}
 use Rattle.model.specs.Device.{Device}
 use Rattle.signature.specs.Signatures.{Accepts}
 use Rattle.signature.specs.declared.part.Signatures.{Signatures}
-use Rattle.stream_next.specs.Items.{item_in}
 use Rattle.stream_next.specs.Views.{item_of}
 use Rattle.stream_next.specs.declared.Item.{Item}
 use Rattle.stream_next.specs.declared.Item.TheVariants.{Offer, Day, Ask, Install}
@@ -11,7 +10,7 @@ use Rattle.device_next.specs.declared.answer.Answer.{Answer}
 use Rattle.running.specs.Runs.{Question, Runs, SoFar}
 
 -- what is no offer and no day is a question
-pub question : (i : Item) → ((p : MutBor (List ℕ)) (s : Signatures) → i ≡ Offer p s → ⊥) → ((d : ℕ) → i ≡ Day d → ⊥) → Question (item_of i)
+pub question : (i : Item) → ((p : Bor (List ℕ)) (s : Signatures) → i ≡ Offer p s → ⊥) → ((d : ℕ) → i ≡ Day d → ⊥) → Question (item_of i)
 question (Offer p s) a b = absurd (a p s refl)
 question (Day d) a b = absurd (b d refl)
 question (Ask p) a b = tt

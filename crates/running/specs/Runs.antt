@@ -10,7 +10,7 @@ use Rattle.stream_next.specs.Items.{Item, Offers, Begins, Asks, Installs, item_i
 use Rattle.device_next.specs.Holding.{Held, Holding, device_of, snapshot_digest}
 use Rattle.device_next.specs.Offers.{offered_bytes, outcome_of}
 use Rattle.device_next.specs.declared.answer.Answer.{Answer}
-use Rattle.device_next.specs.declared.answer.Answer.TheVariants.{Taken, Refused}
+use Rattle.device_next.specs.declared.answer.Answer.TheVariants.{Refused}
 
 -- questions are not answered yet
 abbrev pub Question : Item → Type 0

@@ -1,2 +1,4 @@
 //! What a box makes of a stream of items.
+#![tactic(auto)]
+
 pub mod run;

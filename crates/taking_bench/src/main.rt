@@ -1,4 +1,6 @@
 //! Measures how long a box takes for a timestamp at 100 entries of its journal, and at as many as a word says. `bench/taking.sh` runs it.
+#![tactic(auto)]
+
 use anyhow::anyhow;
 use device_next::answer::Answer;
 use device_next::state::Device;

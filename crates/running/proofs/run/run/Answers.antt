@@ -1,4 +1,4 @@
-use Rattle.std.proofs.Common.{◌≡◌, ℕ, List, length, Ok, vec_items, sym, refl, ap, ◌∙◌}
+use Rattle.std.proofs.Common.{length, Ok, vec_items, sym, ap, ◌∙◌}
 use Rattle.std.proofs.lemmas.List.{nil_from_length}
 use Rattle.std.proofs.lemmas.Bool.{eqb-true, eqb-false}
 use Rattle.model.specs.declared.fault.Fault.TheVariants.{Malformed}
@@ -7,7 +7,7 @@ use Rattle.stream_next.specs.declared.Item.{Item}
 use Rattle.device_next.specs.Holding.{Held, device_of}
 use Rattle.device_next.specs.Views.{holding_of}
 use Rattle.device_next.specs.declared.answer.Answer.TheVariants.{Refused}
-use Rattle.running.specs.Runs.{Runs, ends, offers, begins, asks, stops}
+use Rattle.running.specs.Runs.{ends, offers, begins, asks, stops}
 use Rattle.running.proofs.Shrinks.{item-shorter}
 use Rattle.running.proofs.Running.{question, so_far, at_last, at-end}
 use Rattle.running.proofs.run.run.Goals as goal
@@ -20,7 +20,7 @@ returns-in-Err g c =
     let left = c.loop-left.left.now in
     let said = vec_items c.loop-left.answers in
     at_last accepts d c.args.bytes.now said here left c.loop-left.invariant (Refused c.in-Err.fault) (vec_items c.push.new.self)
-    (stops c.in-Err.fault (λ e. eqb-false (length left) 0 (sym c.loop-left-test.ensures) (ap length e)) c.in-Err.ensures) c.in_ok-push.ensures.items
+    (stops c.in-Err.fault (λ e. eqb-false (length left) 0 (sym c.loop-left-test.ensures) (ap length e)) c.in-Err.ensures) c.in_ok-push-in-Err.ensures.items
 
 pub returns-in_default : goal.returns-in_default
 returns-in_default g c =
@@ -30,13 +30,13 @@ returns-in_default g c =
     let left = c.loop-left.left.now in
     let said = vec_items c.loop-left.answers in
     at_last accepts d c.args.bytes.now said here left c.loop-left.invariant (Refused Malformed) (vec_items c.push-in_default.new.self)
-    (asks (item_of c.in-Ok.read.0) c.in-Ok.ensures (question c.in-Ok.read.0 c.in_default.not-Offer c.in_default.not-Day)) c.in_ok-push-4.ensures.items
+    (asks (item_of c.in-Ok.read.0) c.in-Ok.ensures (question c.in-Ok.read.0 c.in_default.not-Offer c.in_default.not-Day)) c.in_ok-push-in_default.ensures.items
 
-pub loop-left-smaller-in_ok-push-2 : goal.loop-left-smaller-in_ok-push-2
-loop-left-smaller-in_ok-push-2 g c = item-shorter c.loop-left.left.now c.in-Ok.read.1.now (item_of c.in-Ok.read.0) c.in-Ok.ensures
+pub loop-left-smaller-in_ok-push-in-Offer : goal.loop-left-smaller-in_ok-push-in-Offer
+loop-left-smaller-in_ok-push-in-Offer g c = item-shorter c.loop-left.left.now c.in-Ok.read.1.now (item_of c.in-Ok.read.0) c.in-Ok.ensures
 
-pub loop-left-preserved-in_ok-push-2 : goal.loop-left-preserved-in_ok-push-2
-loop-left-preserved-in_ok-push-2 g c =
+pub loop-left-preserved-in_ok-push-in-Offer : goal.loop-left-preserved-in_ok-push-in-Offer
+loop-left-preserved-in_ok-push-in-Offer g c =
     let accepts = g.V.Verifier.accepts in
     let d = device_of accepts (holding_of c.args.device.now) in
     let here = device_of accepts (holding_of c.loop-left.device) in
@@ -44,8 +44,8 @@ loop-left-preserved-in_ok-push-2 g c =
     let said = vec_items c.loop-left.answers in
     let h : Held = record { paper = c.in-Offer.paper.now; signatures = c.in-Offer.signatures.items.now } in
     let s = holding_of c.offer.new.self in
-    so_far accepts d c.args.bytes.now said here left c.loop-left.invariant c.in_ok-answer.answer (vec_items c.push-in-Offer.new.self) (device_of accepts s) c.in-Ok.read.1.now
-    (λ more e runs. offers h s (c.in-Ok.ensures ∙ ap (λ (i : Item). Ok (item_of i, c.in-Ok.read.1.now)) c.in-Offer.is) c.in_ok-answer.ensures.law runs) c.in_ok-push-2.ensures.items
+    so_far accepts d c.args.bytes.now said here left c.loop-left.invariant c.in_ok-answer-in-Offer.answer (vec_items c.push-in-Offer.new.self) (device_of accepts s) c.in-Ok.read.1.now
+    (λ more e runs. offers h s (c.in-Ok.ensures ∙ ap (λ (i : Item). Ok (item_of i, c.in-Ok.read.1.now)) c.in-Offer.is) c.in_ok-answer-in-Offer.ensures.law runs) c.in_ok-push-in-Offer.ensures.items
 
 pub loop-left-preserved : goal.loop-left-preserved
 loop-left-preserved g c =
@@ -56,7 +56,7 @@ loop-left-preserved g c =
     let said = vec_items c.loop-left.answers in
     let s = holding_of c.begin-answer.new.self in
     so_far accepts d c.args.bytes.now said here left c.loop-left.invariant c.begin-answer.result (vec_items c.push-in-Day.new.self) (device_of accepts s) c.in-Ok.read.1.now
-    (λ more e runs. begins c.in-Day.day s (c.in-Ok.ensures ∙ ap (λ (i : Item). Ok (item_of i, c.in-Ok.read.1.now)) c.in-Day.is) (c.begin-answer.ensures.law accepts) runs) c.in_ok-push-3.ensures.items
+    (λ more e runs. begins c.in-Day.day s (c.in-Ok.ensures ∙ ap (λ (i : Item). Ok (item_of i, c.in-Ok.read.1.now)) c.in-Day.is) (c.begin-answer.ensures.law accepts) runs) c.in_ok-push-in-Day.ensures.items
 
 pub returns : goal.returns
 returns g c =
