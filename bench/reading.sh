@@ -1,11 +1,11 @@
 #!/bin/bash
 # Measures how long the largest list takes to read, 256 files and 32 branches, beside the SHA-256 of the same bytes, in one run: the best
 # of five times of each. Paths and keys differ only at their ends, so that each is compared to its end. Build the program first:
-# rt check paper_bench. It fails where a reading is refused, or takes a millisecond or more.
+# rt run in crates/paper_bench. It fails where a reading is refused, or takes a millisecond or more.
 set -eu
 here=$(cd "$(dirname "$0")/.." && pwd)
-program=$here/target/bin/paper_bench
-[ -x "$program" ] || { echo "no $program: run rt check paper_bench" >&2; exit 2; }
+program=$here/crates/paper_bench/out/paper_bench
+[ -x "$program" ] || { echo "no $program: run rt run in crates/paper_bench" >&2; exit 2; }
 
 paper=$(mktemp /tmp/paper.XXXXXX)
 trap 'rm -f "$paper"' EXIT

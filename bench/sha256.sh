@@ -1,13 +1,13 @@
 #!/bin/bash
 # Compares the throughput of sha256_bench with coreutils' sha256sum and with openssl, on one file of 100 MB, in one run: five rounds, each
-# program once a round, and the best of its five times. Build the program first: rt check sha256_bench.
+# program once a round, and the best of its five times. Build the program first: rt run in crates/sha256_bench.
 #
 # openssl runs twice: without the processor's SHA instructions, where it still uses vector instructions, and with plain integer code. A
 # sha256sum that is linked with libcrypto is run with plain integer code too.
 set -eu
 here=$(cd "$(dirname "$0")/.." && pwd)
-program=$here/target/bin/sha256_bench
-[ -x "$program" ] || { echo "no $program: run rt check sha256_bench" >&2; exit 2; }
+program=$here/crates/sha256_bench/out/sha256_bench
+[ -x "$program" ] || { echo "no $program: run rt run in crates/sha256_bench" >&2; exit 2; }
 
 folder=$(mktemp -d /tmp/sha256-bench.XXXXXX)
 trap 'rm -rf "$folder"' EXIT

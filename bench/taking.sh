@@ -1,11 +1,11 @@
 #!/bin/bash
 # Measures how much longer a box takes for a timestamp at 65,000 entries of its journal than at 100, in one run: the mean of twenty
-# timestamps each. A new root comes after each 13,100, with another key for timestamps. Build the program first: rt check taking_bench.
+# timestamps each. A new root comes after each 13,100, with another key for timestamps. Build the program first: rt run in crates/taking_bench.
 # It fails where the difference is more than 2 ms.
 set -eu
 here=$(cd "$(dirname "$0")/.." && pwd)
-program=$here/target/bin/taking_bench
-[ -x "$program" ] || { echo "no $program: run rt check taking_bench" >&2; exit 2; }
+program=$here/crates/taking_bench/out/taking_bench
+[ -x "$program" ] || { echo "no $program: run rt run in crates/taking_bench" >&2; exit 2; }
 
 "$program" 65000 | awk '
     / timestamps: / { count[NR] = $1; took[NR] = $3; before = $8 }
