@@ -2,7 +2,7 @@
 ghost use Rattle.std.specs.Prelude.{◌≡◌, ◌++◌, OnOk};
 ghost use Rattle.std.specs.Option.{option_map};
 ghost use Rattle.std.specs.List.{flat_map};
-ghost use Rattle.wire.specs.Formats.{Reads};
+ghost use Rattle.formats.specs.Formats.{Reads};
 ghost use Rattle.wire.specs.Leaves.{below, steps_of, prefix as prefix_w};
 ghost use Rattle.wire.specs.Numbers.{bytes_of};
 ghost use Rattle.wire.specs.Tables.{follows};

@@ -1,5 +1,5 @@
 -- Numbers in bytes, as the code takes them apart. Assumes nothing.
-use Rattle.std.proofs.Common.{◌≡◌, ℕ, ◌/◌, ◌%◌, ◌<◌, List, [], ◌∷◌, sym, refl, ap, ◌∙◌, arith}
+use Rattle.std.proofs.Common.{◌≡◌, ℕ, ◌/◌, ◌%◌, ◌<◌, [], ◌∷◌, refl, ap, arith}
 use Rattle.wire.specs.Numbers.{bytes_of}
 
 pub one_byte : (n : ℕ) → n < 256 → n ∷ [] ≡ bytes_of 1 n

@@ -1,6 +1,6 @@
 //! Papers of the kind index, from text to bytes.
 ghost use Rattle.std.specs.Prelude.{◌≡◌, nat_lt};
-ghost use Rattle.wire.specs.Formats.{Reads};
+ghost use Rattle.formats.specs.Formats.{Reads};
 ghost use Rattle.wire.specs.Tables.{follows};
 ghost use Rattle.metadata.specs.Papers.{meta as meta_w, metas as metas_w, snapshot as snapshot_w};
 ghost use Rattle.text_form.specs.Texts.{role_line, meta as meta_t, metas as metas_t, snapshot as snapshot_t};

@@ -1,4 +1,6 @@
 //! Parts of papers, from text to bytes.
+#![tactic(auto)]
+
 pub mod index;
 pub mod put;
 pub mod quorum;

@@ -1,6 +1,6 @@
 //! Quorums, from text to bytes.
 ghost use Rattle.std.specs.Option.{option_map};
-ghost use Rattle.wire.specs.Formats.{Reads};
+ghost use Rattle.formats.specs.Formats.{Reads};
 ghost use Rattle.wire.specs.Leaves.{keys as keys_w, quorum as quorum_w};
 ghost use Rattle.text_form.specs.Texts.{key_line, keys as keys_t, quorum as quorum_t};
 ghost use Rattle.draft_parts.specs.Copies.{Copies};

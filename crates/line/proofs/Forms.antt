@@ -1,13 +1,13 @@
 -- The law of a line, of whatever value. Assumes nothing.
-use Rattle.std.proofs.Common.{◌≡◌, ℕ, ◌<◌, Bool, true, false, cond, ◌&&◌, T, eqb, List, [], ◌∷◌, ◌++◌, length, Ok, Err, Result, sym, refl, ap, ◌∙◌, subst, true≢false, append_assoc}
+use Rattle.std.proofs.Common.{◌≡◌, ℕ, Bool, true, false, cond, ◌&&◌, T, eqb, List, [], ◌∷◌, ◌++◌, Ok, Err, Result, sym, refl, ap, ◌∙◌, subst, true≢false}
 use mathlib.Core.List.{append_cancel_left}
-use Rattle.std.specs.List.{AllByRecursion}
 use Rattle.std.proofs.lemmas.Bool.{and_parts, and_from}
 use Rattle.std.proofs.ByRecursion.{All-append}
 use Rattle.model.specs.Same.{same_list}
 use Rattle.model.proofs.Same.{bytes}
-use Rattle.wire.specs.Formats.{FormatOf, Lawful, Bytes, and_then}
-use Rattle.wire.proofs.Laws.{inv-then, inv-only, same_ok}
+use Rattle.wire.specs.Formats.{Bytes}
+use Rattle.formats.specs.Formats.{FormatOf, Lawful, and_then}
+use Rattle.formats.proofs.Laws.{inv-then, inv-only}
 use Rattle.line.specs.Lines.{bare}
 use Rattle.line.specs.Forms.{bad_at, line_in, behind_line, judged, ruled, Unended, Begins}
 use Rattle.line.specs.declared.expected.Bad.{Bad}

@@ -1,23 +1,21 @@
 -- The laws of lines with numbers, bytes, steps, flags and kinds. Assumes nothing.
-use Rattle.std.proofs.Common.{◌≡◌, ℕ, ◌+◌, ◌-◌, ◌*◌, ◌/◌, ◌%◌, ◌^◌, ◌<◌, ◌≤◌, Bool, true, false, cond, ◌&&◌, eqb, ltb, leb, List, [], ◌∷◌, ◌++◌, length, drop, Ok, Err, codes, decimal, Result, sym, refl, ap, ◌∙◌, subst, true≢false, append_assoc, append-nil, arith}
-use lib.Seq.{drop-append_seam}
+use Rattle.std.proofs.Common.{◌≡◌, ℕ, ◌+◌, ◌*◌, ◌/◌, ◌%◌, ◌^◌, ◌<◌, ◌≤◌, Bool, true, false, cond, eqb, ltb, leb, List, [], ◌∷◌, ◌++◌, length, drop, Ok, Err, codes, decimal, sym, refl, ap, ◌∙◌, true≢false, append_assoc, arith}
 use Rattle.std.specs.Str.Parse.{AllDigits, digits_value, digits_value_after}
 use Rattle.std.specs.Char.{digit_value}
-use Rattle.std.specs.Int.{IsInRange}
-use Rattle.std.specs.List.{flat_map, AllByRecursion}
-use Rattle.std.proofs.lemmas.Fmt.{decimal_is_IsNumeral, decimal_injective}
+use Rattle.std.specs.List.{AllByRecursion}
+use Rattle.std.proofs.lemmas.Fmt.{decimal_is_IsNumeral}
 use Rattle.std.proofs.lemmas.Str.Parse.{digit_from_value}
 use Rattle.std.proofs.ByRecursion.{All-append}
-use Rattle.std.proofs.lemmas.List.{length-append, drop-drop, drop_at}
+use Rattle.std.proofs.lemmas.List.{length-append, drop_at}
 use Rattle.std.proofs.lemmas.Bool.{and_parts, and_from, leb-true, ltb-true, ne_eqb, lt-ltb}
 use Rattle.std.proofs.lemmas.Bool.Decides.{nat_tests}
 use Rattle.model.specs.Metadata.{Steps}
 use Rattle.model.specs.Same.{same_list}
-use Rattle.wire.specs.Formats.{FormatOf, Lawful, Bytes}
+use Rattle.formats.specs.Formats.{Lawful}
 use Rattle.wire.specs.Leaves.{within}
-use Rattle.line.specs.Lines.{bare, numbered, digit_of, hex_of_byte, hex_of, hexed, steps_from, stepped}
+use Rattle.line.specs.Lines.{bare, numbered, digit_of, hex_of, hexed, steps_from, stepped}
 use Rattle.line.specs.Words.{word_of, kind_word}
-use Rattle.line.specs.Forms.{judged, read_number, line_of_number, all_below, digit_in, bytes_in, allowed_bytes, read_bytes, line_of_bytes, steps_after, steps_in, allowed_steps, read_steps, line_of_steps, flag_write, read_flag, line_of_flag, kind_in, read_kind, line_of_kind, Unended}
+use Rattle.line.specs.Forms.{read_number, line_of_number, all_below, digit_in, bytes_in, allowed_bytes, read_bytes, line_of_bytes, steps_after, steps_in, allowed_steps, read_steps, line_of_steps, flag_write, read_flag, line_of_flag, kind_in, read_kind, line_of_kind, Unended}
 use Rattle.line.specs.declared.expected.Word.{Word}
 use Rattle.line.specs.declared.expected.Word.TheVariants as word
 use Rattle.line.specs.declared.expected.Expected.TheVariants as expected

@@ -1,11 +1,11 @@
 -- Lines as formats. A line is good if it is the line of a value that is allowed there, and else it is bad where it begins. Assumes nothing.
-use Rattle.std.specs.Prelude.{◌≡◌, ℕ, ◌+◌, ◌-◌, ◌*◌, ◌<◌, Bool, true, false, cond, ◌&&◌, List, [], ◌∷◌, ◌++◌, length, drop, Ok, Err, codes, Result, ◌==◌, nat_lt}
+use Rattle.std.specs.Prelude.{◌≡◌, ℕ, ◌+◌, ◌-◌, ◌*◌, Bool, true, false, cond, ◌&&◌, List, [], ◌∷◌, ◌++◌, length, drop, Ok, Err, codes, Result, ◌==◌, nat_lt}
 use Rattle.std.specs.Str.Parse.{digits_value}
 use Rattle.std.specs.Char.{digit_value}
-use Rattle.std.specs.List.{flat_map, AllByRecursion}
+use Rattle.std.specs.List.{AllByRecursion}
 use Rattle.model.specs.Metadata.{Key, Steps}
 use Rattle.model.specs.Same.{same_list}
-use Rattle.wire.specs.Formats.{FormatOf, and_then}
+use Rattle.formats.specs.Formats.{FormatOf, and_then}
 use Rattle.wire.specs.Leaves.{within}
 use Rattle.line.specs.Lines.{bare, numbered, hexed, stepped}
 use Rattle.line.specs.Words.{word_of, kind_word}

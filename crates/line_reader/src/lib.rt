@@ -1,4 +1,6 @@
 //! Lines of text, read.
+#![tactic(auto)]
+
 pub mod path;
 pub mod reader;
 pub mod value;

@@ -1,6 +1,6 @@
 //! Paths as they stand on lines.
 ghost use Rattle.std.specs.Prelude.{◌≡◌, ◌<◌, ◌≤◌, [], ◌∷◌, ◌++◌, length, decimal, MatchOption};
-ghost use Rattle.wire.specs.Formats.{Reads};
+ghost use Rattle.formats.specs.Formats.{Reads};
 ghost use Rattle.wire.specs.Leaves.{steps_of};
 ghost use Rattle.line.specs.Lines.{steps_from};
 ghost use Rattle.line_reader.specs.Finds.{Found};

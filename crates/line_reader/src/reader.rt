@@ -1,6 +1,6 @@
 //! Lines, read from the front of a text.
 ghost use Rattle.std.specs.Prelude.{◌≤◌, [], IfOk};
-ghost use Rattle.wire.specs.Formats.{Reads};
+ghost use Rattle.formats.specs.Formats.{Reads};
 ghost use Rattle.line_reader.specs.Finds.{Behind};
 ghost use Rattle.line.specs.Forms.{line_of_number, line_of_bytes, line_of_flag, line_of_kind};
 ghost use Rattle.line.specs.Words.{word_of};

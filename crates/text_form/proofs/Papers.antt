@@ -1,23 +1,23 @@
 -- The laws of papers in text. Assumes nothing.
-use Rattle.std.proofs.Common.{◌≡◌, ℕ, ◌+◌, ◌^◌, ◌<◌, ◌≤◌, Bool, true, false, cond, not, eqb, ltb, leb, List, [], ◌∷◌, ◌++◌, length, Some, None, Ok, Err, Option, Result, sym, refl, ap, ◌∙◌, subst, append_assoc, append-nil, arith}
-use Rattle.std.specs.List.{AllByRecursion}
+use Rattle.std.proofs.Common.{◌≡◌, ℕ, ◌+◌, ◌^◌, ◌<◌, ◌≤◌, Bool, true, false, cond, not, eqb, ltb, leb, List, [], ◌++◌, length, Some, None, Ok, Err, Option, Result, sym, refl, ap, ◌∙◌, subst, append_assoc, append-nil, arith}
 use Rattle.std.proofs.ByRecursion.{All-append}
 use Rattle.std.proofs.lemmas.List.{nil_from_length}
-use Rattle.std.proofs.lemmas.Bool.{and_from, eqb-true, eq-eqb, leb-true, le-leb, not-true, eqb-false, ne_eqb}
+use Rattle.std.proofs.lemmas.Bool.{and_from, eqb-true, leb-true, le-leb}
 use Rattle.std.proofs.lemmas.Bool.Decides.{nat_tests}
 use Rattle.model.specs.declared.fault.Fault.TheVariants.{OutOfRange}
 use Rattle.model.specs.Metadata.{Key, Steps, Meta, File, Delegation, Targets, Metadata, ARoot, ATimestamp, ASnapshot, ATargets}
-use Rattle.wire.specs.Formats.{FormatOf, Format, Lawful, Bytes, and_then, pair, only, mapped}
+use Rattle.wire.specs.Formats.{Format, Bytes, pair as pair_of_bytes, only}
+use Rattle.formats.specs.Formats.{FormatOf, Lawful, and_then, pair}
 use Rattle.wire.specs.Numbers as numbers
 use Rattle.wire.specs.Tables.{follows}
 use Rattle.wire.specs.Leaves as leaves
 use Rattle.wire.specs.Leaves.{below, within}
-use Rattle.wire.proofs.Laws.{not-ok, same_ok, inv-then, inv-only, lawful-pair, lawful-pair-within, lawful-mapped}
+use Rattle.formats.proofs.Laws.{same_ok, inv-then, inv-only, lawful-pair, lawful-pair-within, lawful-mapped}
 use Rattle.metadata.specs.Papers as bytes
 use Rattle.metadata.specs.Papers.{WellFormed, bytes_of_paper}
 use Rattle.line.specs.Lines.{bare}
 use Rattle.line.specs.Words.{kind_word}
-use Rattle.line.specs.Forms.{bad_at, line_of_number, line_of_bytes, line_of_steps, line_of_flag, line_of_kind, ruled}
+use Rattle.line.specs.Forms.{bad_at, line_of_number, line_of_bytes, line_of_steps, line_of_kind, ruled}
 use Rattle.line.specs.declared.expected.Bad.{Bad}
 use Rattle.line.specs.declared.expected.Word.{Word}
 use Rattle.line.specs.declared.expected.Word.TheVariants as word
@@ -27,9 +27,8 @@ use Rattle.line.specs.declared.kind.Kind.{Kind}
 use Rattle.line.specs.declared.kind.Kind.TheVariants as kind
 use Rattle.line.proofs.Forms.{lawful-ruled}
 use Rattle.line.proofs.Leaves.{from-within, lawful-number-line, lawful-bytes-line, lawful-steps-line, lawful-flag-line, lawful-kind-line}
-use Rattle.text.specs.Texts.{text_of}
-use Rattle.text_form.specs.Chains.{chain}
-use Rattle.text_form.specs.Texts.{version, last_day, key_line, keys, quorum, root, timestamp, meta, metas, snapshot, file, files, delegation, delegations, contents, targets, wrapped, of_kind, Wf, paper, ended, text_in}
+use Rattle.text_next.specs.Texts.{text_of}
+use Rattle.text_form.specs.Texts.{version, last_day, key_line, keys, quorum, root, timestamp, meta, snapshot, file, files, delegation, delegations, contents, targets, wrapped, of_kind, Wf, paper, ended, text_in}
 use Rattle.text_form.specs.OneText.{OneText}
 use Rattle.text_form.proofs.Chains.{lawful-chain}
 use Rattle.text_form.proofs.Twins.{Twin, TwinItem, twin-pair, twin-mapped, twin-number, twin-bytes, twin-steps, twin-flag, twin-chain, bytes-bytes_of, all_right}
@@ -156,11 +155,11 @@ twin-timestamp =
 
 -- an item whose first line has the key
 first-there : {A B : Type 0} (f : FormatOf Bad A) (f' : Format A) (g : FormatOf Bad B) (g' : Format B) (test : A → Bool) (e : Expected) → Twin f f' → Twin g g' → (x : A × B) → (pair (ruled f test e) (λ _. g)).Wf x →
-    (pair f' (λ _. g')).Wf x × Bytes ((pair f' (λ _. g')).write x) × (test x.0 ≡ true)
+    (pair_of_bytes f' (λ _. g')).Wf x × Bytes ((pair_of_bytes f' (λ _. g')).write x) × (test x.0 ≡ true)
 first-there f f' g g' test e F G x h = let k = (twin-pair f f' (λ _. g) (λ _. g') F (λ _ _. G)).there x (h.0.0, h.1) in (k.0, k.1, h.0.1)
 
-first_back : {A B : Type 0} (f : FormatOf Bad A) (f' : Format A) (g : FormatOf Bad B) (g' : Format B) (test : A → Bool) (e : Expected) → Twin f f' → Twin g g' → (x : A × B) → (pair f' (λ _. g')).Wf x →
-    Bytes ((pair f' (λ _. g')).write x) → test x.0 ≡ true → (pair (ruled f test e) (λ _. g)).Wf x
+first_back : {A B : Type 0} (f : FormatOf Bad A) (f' : Format A) (g : FormatOf Bad B) (g' : Format B) (test : A → Bool) (e : Expected) → Twin f f' → Twin g g' → (x : A × B) → (pair_of_bytes f' (λ _. g')).Wf x →
+    Bytes ((pair_of_bytes f' (λ _. g')).write x) → test x.0 ≡ true → (pair (ruled f test e) (λ _. g)).Wf x
 first_back f f' g g' test e F G x h b t = let k = (twin-pair f f' (λ _. g) (λ _. g') F (λ _ _. G)).back x h b in ((k.0, t), k.1)
 
 twin-meta : TwinItem meta bytes.meta (λ (m : Meta). m.role) ltb
@@ -179,7 +178,7 @@ abbrev sized : FormatOf Bad (ℕ × List ℕ)
 sized = pair (line_of_number word.Size 0 1099511627776) (λ _. line_of_bytes word.Digest)
 
 abbrev sized' : Format (ℕ × List ℕ)
-sized' = pair (only (numbers.number 8) (λ n. leb n 1099511627776) OutOfRange) (λ _. numbers.block 32)
+sized' = pair_of_bytes (only (numbers.number 8) (λ n. leb n 1099511627776) OutOfRange) (λ _. numbers.block 32)
 
 twin-sized : Twin sized sized'
 twin-sized = twin-pair (line_of_number word.Size 0 1099511627776) _ _ _ (twin-upto word.Size 1099511627776 8 (omega arith)) (λ _ _. twin-bytes word.Digest)
@@ -211,7 +210,7 @@ flat t = (t.role, (t.version, (t.expires, (length t.files, (t.files, (length t.d
 
 twin-flat : Twin
     (pair (line_of_number word.Role 0 65535) (λ _. pair (version word.Number) (λ _. pair last_day (λ _. pair (line_of_number word.Files 0 256) (λ n. pair (files n) (λ _. pair (line_of_number word.Branches 0 32) delegations))))))
-    (pair (numbers.number 2) (λ _. pair numbers.version (λ _. pair (numbers.number 4) (λ _. pair (only (numbers.number 2) (λ n. leb n 256) OutOfRange) (λ n. pair (bytes.files n) (λ _. pair (only (numbers.number 1) (λ m. leb m 32) OutOfRange) bytes.delegations))))))
+    (pair_of_bytes (numbers.number 2) (λ _. pair_of_bytes numbers.version (λ _. pair_of_bytes (numbers.number 4) (λ _. pair_of_bytes (only (numbers.number 2) (λ n. leb n 256) OutOfRange) (λ n. pair_of_bytes (bytes.files n) (λ _. pair_of_bytes (only (numbers.number 1) (λ m. leb m 32) OutOfRange) bytes.delegations))))))
 twin-flat =
     (twin-pair (line_of_number word.Role 0 65535) (numbers.number 2) _ _ (twin-plain word.Role 65535 2 refl) (λ _ _. twin-pair (version word.Number) numbers.version _ _ (twin-version word.Number) (λ _ _. twin-pair last_day (numbers.number 4) _ _ twin-last-day (λ _ _.
     twin-pair (line_of_number word.Files 0 256) _ _ _ (twin-upto word.Files 256 2 (omega arith)) (λ n _. twin-pair (files n) (bytes.files n) _ _ (twin-chain file bytes.file (λ (f : File). f.path) below twin-file n) (λ _ _.

@@ -1,13 +1,14 @@
 -- A text format and a byte format of the same values. Assumes nothing.
-use Rattle.std.proofs.Common.{◌≡◌, ℕ, zero, suc, ◌/◌, ◌%◌, ◌^◌, ◌<◌, ◌≤◌, Bool, true, false, cond, not, ◌&&◌, eqb, ltb, leb, List, [], ◌∷◌, ◌++◌, length, Some, None, Option, sym, refl, ap, ◌∙◌, subst, arith}
+use Rattle.std.proofs.Common.{◌≡◌, ℕ, zero, suc, ◌/◌, ◌%◌, ◌<◌, ◌≤◌, Bool, true, false, cond, eqb, leb, List, [], ◌∷◌, ◌++◌, length, Some, None, Option, sym, refl, ap, ◌∙◌, subst, arith}
 use Rattle.std.specs.List.{flat_map, AllByRecursion}
 use Rattle.std.proofs.ByRecursion.{All-append}
-use Rattle.std.proofs.lemmas.Bool.{and_parts, and_from, eqb-true, eq-eqb, le-leb, leb-true}
-use Rattle.wire.specs.Formats.{FormatOf, Format, Bytes, pair, mapped}
+use Rattle.std.proofs.lemmas.Bool.{and_parts, and_from, eqb-true, eq-eqb, le-leb}
+use Rattle.wire.specs.Formats.{Format, Bytes, pair as pair_of_bytes, mapped as mapped_of_bytes}
+use Rattle.formats.specs.Formats.{FormatOf, pair, mapped}
 use Rattle.wire.specs.Numbers.{block, bytes_of}
 use Rattle.wire.specs.Tables.{follows, rises, rising}
 use Rattle.wire.specs.Leaves.{within, stepped, flag}
-use Rattle.line.specs.Forms.{line_of_number, all_below, line_of_bytes, allowed_bytes, line_of_steps, allowed_steps, line_of_flag}
+use Rattle.line.specs.Forms.{line_of_number, all_below, line_of_bytes, line_of_steps, line_of_flag}
 use Rattle.line.specs.declared.expected.Bad.{Bad}
 use Rattle.line.specs.declared.expected.Word.{Word}
 use Rattle.line.proofs.Leaves.{from-within, all-below, below_all}
@@ -29,7 +30,7 @@ pub record Twin {A : Type 0} (t : FormatOf Bad A) (w : Format A) : Type 0 where
   pub there : (x : A) → t.Wf x → w.Wf x × Bytes (w.write x)
   pub back : (x : A) → w.Wf x → Bytes (w.write x) → t.Wf x
 
-pub twin-pair : {A B : Type 0} (f : FormatOf Bad A) (f' : Format A) (g : A → FormatOf Bad B) (g' : A → Format B) → Twin f f' → ((x : A) → f.Wf x → Twin (g x) (g' x)) → Twin (pair f g) (pair f' g')
+pub twin-pair : {A B : Type 0} (f : FormatOf Bad A) (f' : Format A) (g : A → FormatOf Bad B) (g' : A → Format B) → Twin f f' → ((x : A) → f.Wf x → Twin (g x) (g' x)) → Twin (pair f g) (pair_of_bytes f' g')
 twin-pair f f' g g' F G = record {
   there = λ x w.
       let a = F.there x.0 w.0 in
@@ -40,7 +41,7 @@ twin-pair f f' g g' F G = record {
       (a, (G x.0 a).back x.1 w.1 (all_right Small (f'.write x.0) ((g' x.0).write x.1) b));
 }
 
-pub twin-mapped : {A B : Type 0} (f : FormatOf Bad A) (f' : Format A) (to : A → B) (from : B → A) → Twin f f' → Twin (mapped f to from) (mapped f' to from)
+pub twin-mapped : {A B : Type 0} (f : FormatOf Bad A) (f' : Format A) (to : A → B) (from : B → A) → Twin f f' → Twin (mapped f to from) (mapped_of_bytes f' to from)
 twin-mapped f f' to from F = record { there = λ y w. F.there (from y) w; back = λ y w b. F.back (from y) w b }
 
 pub bytes-bytes_of : (n x : ℕ) → Bytes (bytes_of n x)

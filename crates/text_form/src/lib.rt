@@ -1,2 +1,4 @@
 //! Which text stands for which paper.
+#![tactic(auto)]
+
 pub mod form;

@@ -1,5 +1,4 @@
-use Rattle.std.proofs.Common.{◌≡◌, not, vec_items, sym}
-use Rattle.std.proofs.lemmas.Bool.{not-true, not-false}
+use Rattle.std.proofs.Common.{vec_items, sym}
 use Rattle.metadata.specs.Papers.{bytes_of_paper}
 use Rattle.text_form.specs.Texts.{paper}
 use Rattle.text_form.proofs.Papers.{text-bad, text-more, text-whole}

@@ -1,4 +1,4 @@
-use Rattle.std.proofs.Common.{◌≡◌, Bool, true, false, cond, refl, append_assoc, rules}
+use Rattle.std.proofs.Common.{append_assoc, rules}
 use Rattle.line_reader.specs.Paths.{path_of}
 use Rattle.draft_list.proofs.list.put_branch.Goals as goal
 

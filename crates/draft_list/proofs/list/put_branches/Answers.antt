@@ -1,4 +1,4 @@
-use Rattle.std.proofs.Common.{◌≡◌, Some, vec_items}
+use Rattle.std.proofs.Common.{Some, vec_items}
 use Rattle.model.specs.Metadata.{Delegation}
 use Rattle.metadata.specs.Papers as bytes
 use Rattle.text_form.specs.Texts.{delegation, delegations}

@@ -1,4 +1,4 @@
-use Rattle.std.proofs.Common.{◌≡◌, ℕ, ◌+◌, List, Some, vec_items, sym, ap, ◌∙◌, subst, rules}
+use Rattle.std.proofs.Common.{◌≡◌, ℕ, ◌+◌, List, Some, vec_items, subst}
 use Rattle.std.specs.Option.{option_map}
 use Rattle.model.specs.Metadata.{File}
 use Rattle.metadata.specs.Papers as bytes

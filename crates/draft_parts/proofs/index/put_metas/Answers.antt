@@ -1,4 +1,4 @@
-use Rattle.std.proofs.Common.{◌≡◌, ℕ, ◌+◌, Some, vec_items, sym, ap, ◌∙◌, subst, rules}
+use Rattle.std.proofs.Common.{◌≡◌, ℕ, ◌+◌, Some, vec_items, subst}
 use Rattle.model.specs.Metadata.{Meta}
 use Rattle.metadata.specs.Papers as bytes
 use Rattle.text_form.specs.Texts.{meta, metas}

@@ -1,4 +1,4 @@
-use Rattle.std.proofs.Common.{◌≡◌, ℕ, List, vec_items, sym, ap, ◌∙◌, rules}
+use Rattle.std.proofs.Common.{ℕ, List, vec_items, sym, ap, ◌∙◌, rules}
 use Rattle.text_form.specs.Texts.{key_line}
 use Rattle.text_form.proofs.Chains.{chain_more, chain-bad}
 use Rattle.draft_parts.proofs.quorum.put_keys.Goals as goal

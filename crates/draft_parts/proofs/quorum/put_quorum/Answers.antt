@@ -1,4 +1,4 @@
-use Rattle.std.proofs.Common.{◌≡◌, ℕ, List, length, None, sym, ap, ◌∙◌, append_assoc, rules}
+use Rattle.std.proofs.Common.{◌≡◌, ℕ, List, length, None, append_assoc, rules}
 use Rattle.text_form.specs.Texts.{key_line}
 use Rattle.text_form.proofs.Chains.{chain_length}
 use Rattle.draft_parts.proofs.quorum.put_quorum.Goals as goal

@@ -1,4 +1,4 @@
-use Rattle.std.proofs.Common.{◌≡◌, ℕ, ◌+◌, ◌<◌, List, ◌++◌, length, sym, refl, ap, ◌∙◌, subst, arith}
+use Rattle.std.proofs.Common.{ℕ, ◌+◌, ◌<◌, List, length, sym, ap, ◌∙◌, subst, arith}
 use Rattle.std.proofs.lemmas.List.{length-append}
 use Rattle.line_reader.specs.Paths.{path_of, step_text, behind_step}
 use Rattle.line_reader.proofs.Steps.{Walk, step-parts, walk_start, walk_end, walk-mark, walk-digits, walk-full, walk_more}

@@ -1,7 +1,7 @@
-use Rattle.std.proofs.Common.{◌≡◌, ℕ, ◌≤◌, true, leb, List, length, sym, ap, ◌∙◌, subst, arith}
+use Rattle.std.proofs.Common.{◌≡◌, ℕ, ◌≤◌, true, leb, length, sym, ap, ◌∙◌, arith}
 use lib.ListN.{length-map}
 use Rattle.std.proofs.lemmas.Bool.{and_parts, and_from, le-leb}
-use Rattle.wire.specs.Leaves.{steps_of, within}
+use Rattle.wire.specs.Leaves.{within}
 use Rattle.wire.specs.Numbers.{big_endian}
 use Rattle.model.specs.Metadata.{Steps}
 use Rattle.line.specs.Lines.{steps_from}

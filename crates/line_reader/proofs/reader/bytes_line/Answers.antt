@@ -1,4 +1,4 @@
-use Rattle.std.proofs.Common.{◌≡◌, ◌∷◌, sym, ap, ◌∙◌}
+use Rattle.std.proofs.Common.{◌∷◌, sym, ap, ◌∙◌}
 use Rattle.line.specs.Lines.{hex_of}
 use Rattle.line.proofs.Leaves.{no-bytes-word, no_bytes, one-bytes}
 use Rattle.line_reader.proofs.Values.{tail-same}

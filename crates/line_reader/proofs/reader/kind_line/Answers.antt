@@ -1,4 +1,4 @@
-use Rattle.std.proofs.Common.{◌≡◌, true, false, sym}
+use Rattle.std.proofs.Common.{sym}
 use Rattle.line.specs.declared.kind.Kind.TheVariants as kind
 use Rattle.line.proofs.Leaves.{no-kind-line, no_kind, one-kind}
 use Rattle.line_reader.proofs.reader.kind_line.Goals as goal

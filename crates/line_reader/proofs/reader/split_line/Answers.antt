@@ -3,7 +3,7 @@ use Rattle.std.proofs.ByRecursion.{All-more}
 use Rattle.std.proofs.lemmas.List.{drop_more, take_rest, take_all}
 use Rattle.std.proofs.lemmas.Bool.{ne_eqb}
 use Rattle.line.specs.Lines.{bare}
-use Rattle.line.specs.Forms.{Begins, Unended}
+use Rattle.line.specs.Forms.{Unended}
 use Rattle.line.proofs.Forms.{no_line}
 use Rattle.line_reader.proofs.reader.split_line.Goals as goal
 

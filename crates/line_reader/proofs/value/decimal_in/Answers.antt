@@ -1,6 +1,6 @@
-use Rattle.std.proofs.Common.{◌≡◌, sym, refl, ap, ◌∙◌, true≢false, arith}
+use Rattle.std.proofs.Common.{sym, ◌∙◌, true≢false, arith}
 use Rattle.std.proofs.lemmas.Fmt.{parse-decimal}
-use Rattle.wire.proofs.Laws.{not-ok}
+use Rattle.formats.proofs.Laws.{not-ok}
 use Rattle.line_reader.proofs.Values.{digits_utf8, digits-some, well-begun, parsed-digits}
 use Rattle.line_reader.proofs.value.decimal_in.Goals as goal
 
@@ -17,7 +17,7 @@ returns-in_default-from_utf8 c = λ x small e. c.in_default-from_utf8.ensures.ca
 pub returns-in-Ok-parse : goal.returns-in-Ok-parse
 returns-in-Ok-parse c =
     parsed-digits c.args.digits.now c.in-Ok.text.now c.in-Some.first.now c.in-Some.more.now c.in-Ok-parse.n c.in-Ok.ensures.cases.0 c.in-Some.ensures.cases.0 (sym c.if-not-begins_well.ensures)
-    c.in-Ok-parse.ensures.reads.0
+    c.in-Ok-parse.ensures.value.0
 
 pub returns-in-Err : goal.returns-in-Err
 returns-in-Err c = λ x small e. not-ok (sym c.in-Err.is ∙ parse-decimal 64 x c.in-Ok.text.now c.parse.result small small (c.in-Ok.ensures.cases.0 ∙ e) c.parse.ensures.value.0)

@@ -1,4 +1,4 @@
-use Rattle.std.proofs.Common.{◌≡◌, ℕ, List, [], ◌∷◌, length, get_or, sym, ◌∙◌, arith}
+use Rattle.std.proofs.Common.{get_or, ◌∙◌, arith}
 use Rattle.line_reader.proofs.Values.{hex-byte-is, both_of}
 use Rattle.line_reader.proofs.value.hex_byte.Goals as goal
 

@@ -1,9 +1,9 @@
-use Rattle.std.proofs.Common.{◌≡◌, ℕ, ◌+◌, ◌*◌, ◌/◌, ◌<◌, true, eqb, List, map, length, get_or, take, set, sym, refl, ap, ◌∙◌, arith, length-set}
+use Rattle.std.proofs.Common.{◌≡◌, ℕ, ◌/◌, ◌<◌, true, eqb, List, map, length, sym, ap, ◌∙◌, arith, length-set}
 use Rattle.std.specs.Simd.{first_chunks}
 use Rattle.std.proofs.ByRecursion.{All-set}
 use Rattle.std.proofs.lemmas.List.{take_all}
 use Rattle.std.proofs.lemmas.Bool.{and_parts, and_from, eqb-true, eq-eqb}
-use Rattle.line.specs.Lines.{hex_of_byte, hex_of}
+use Rattle.line.specs.Lines.{hex_of_byte}
 use Rattle.line.specs.Forms.{all_below, allowed_bytes}
 use Rattle.line.proofs.Leaves.{all-below, below_all}
 use Rattle.line_reader.proofs.Values.{length-hex, hex-pairs, hex-more, hex-none}

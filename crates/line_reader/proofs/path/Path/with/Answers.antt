@@ -1,10 +1,9 @@
-use Rattle.std.proofs.Common.{◌≡◌, ℕ, ◌+◌, ◌/◌, ◌%◌, ◌<◌, ◌≤◌, List, [], ◌∷◌, ◌++◌, map, length, get_or, take, set, sym, refl, ap, ◌∙◌, arith, length-take}
+use Rattle.std.proofs.Common.{◌≡◌, ℕ, ◌+◌, ◌/◌, ◌%◌, ◌<◌, ◌≤◌, List, [], ◌∷◌, ◌++◌, length, take, set, refl, ap, ◌∙◌, arith}
 use lib.ListN.{length-map}
 use Rattle.std.proofs.lemmas.List.{map_push, take_more_set, length-take-le, take_all}
 use Rattle.wire.specs.Leaves.{steps_of}
 use Rattle.wire.specs.Numbers.{big_endian}
 use Rattle.wire.proofs.Numbers.{two}
-use Rattle.line_reader.specs.Paths.{path_of}
 use Rattle.line_reader.proofs.path.Path.with.Goals as goal
 
 long : (xs : List (List ℕ)) (n : ℕ) → length xs ≡ 8 → 8 ≤ n → length (steps_of (take n xs)) ≡ 8

@@ -1,0 +1,2 @@
+//! Formats over any type of error, and their laws.
+#![tactic(auto)]
