@@ -27,7 +27,7 @@ use Rattle.line.specs.declared.kind.Kind.{Kind}
 use Rattle.line.specs.declared.kind.Kind.TheVariants as kind
 use Rattle.line.proofs.Forms.{lawful-ruled}
 use Rattle.line.proofs.Leaves.{from-within, lawful-number-line, lawful-bytes-line, lawful-steps-line, lawful-flag-line, lawful-kind-line}
-use Rattle.text_next.specs.Texts.{text_of}
+use Rattle.text_next.specs.Texts.{paper_text}
 use Rattle.text_form.specs.Texts.{version, last_day, key_line, keys, quorum, root, timestamp, meta, snapshot, file, files, delegation, delegations, contents, targets, wrapped, of_kind, Wf, paper, ended, text_in}
 use Rattle.text_form.specs.OneText.{OneText}
 use Rattle.text_form.proofs.Chains.{lawful-chain}
@@ -240,7 +240,7 @@ abbrev next : Kind × List ℕ → Result (Metadata × List ℕ) Bad
 next p = of_kind p.0 p.1
 
 abbrev Once : List ℕ → Metadata × List ℕ → Type 0
-Once bs p = (text_of p.0 ++ p.1 ≡ bs) × Wf p.0 × Bytes p.1
+Once bs p = (paper_text p.0 ++ p.1 ≡ bs) × Wf p.0 × Bytes p.1
 
 module _ {A : Type 0} (k : Kind) (f : FormatOf Bad A) (F : Lawful f) (case : A → Metadata) where
   kind-back : ((bs : List ℕ) → of_kind k bs ≡ wrapped case (f.read bs)) → (x : A) (rest : List ℕ) → f.Wf x → paper.read ((bare (kind_word k) ++ f.write x) ++ rest) ≡ Ok (case x, rest)
@@ -249,7 +249,7 @@ module _ {A : Type 0} (k : Kind) (f : FormatOf Bad A) (F : Lawful f) (case : A �
       ∙ ap (λ r. and_then r next) (lawful-kind-line.back k (f.write x ++ rest) tt)
       ∙ is (f.write x ++ rest) ∙ ap (wrapped case) (F.back x rest h)
 
-  kind-once : (bs rest : List ℕ) (p : Metadata × List ℕ) → bare (kind_word k) ++ rest ≡ bs → Bytes rest → ((x : A) → text_of (case x) ≡ bare (kind_word k) ++ f.write x) → ((x : A) → f.Wf x → Wf (case x)) →
+  kind-once : (bs rest : List ℕ) (p : Metadata × List ℕ) → bare (kind_word k) ++ rest ≡ bs → Bytes rest → ((x : A) → paper_text (case x) ≡ bare (kind_word k) ++ f.write x) → ((x : A) → f.Wf x → Wf (case x)) →
       wrapped case (f.read rest) ≡ Ok p → Once bs p
   kind-once bs rest p e c write wf h =
       let i = inv-then (f.read rest) (λ q. Ok (case q.0, q.1)) p h in
@@ -260,7 +260,7 @@ module _ {A : Type 0} (k : Kind) (f : FormatOf Bad A) (F : Lawful f) (case : A �
         o.2,
       )
 
-paper-back : (p : Metadata) (rest : List ℕ) → Wf p → paper.read (text_of p ++ rest) ≡ Ok (p, rest)
+paper-back : (p : Metadata) (rest : List ℕ) → Wf p → paper.read (paper_text p ++ rest) ≡ Ok (p, rest)
 paper-back (ARoot r) rest w = kind-back kind.Root root lawful-root ARoot (λ bs. refl) r rest w
 paper-back (ATimestamp t) rest w = kind-back kind.Clock timestamp lawful-timestamp ATimestamp (λ bs. refl) t rest w
 paper-back (ASnapshot x) rest w = kind-back kind.Index snapshot lawful-snapshot ASnapshot (λ bs. refl) x rest w
@@ -292,17 +292,17 @@ pub text-whole : (bs rest : List ℕ) (p : Metadata) → paper.read bs ≡ Ok (p
 unfolding text_in
 text-whole bs rest p h e = ap (λ r. and_then r ended) h ∙ ap (λ t. cond t (Ok p) (Err (bad_at rest expected.End))) e
 
-text-form : (bs : List ℕ) (p : Metadata) → Bytes bs → text_in bs ≡ Ok p → Wf p × (text_of p ≡ bs)
+text-form : (bs : List ℕ) (p : Metadata) → Bytes bs → text_in bs ≡ Ok p → Wf p × (paper_text p ≡ bs)
 unfolding text_in
 text-form bs p b h =
     let i = inv-then (paper.read bs) ended p h in
     let j = inv-only (eqb (length i.0.1) 0) (bad_at i.0.1 expected.End) i.0.0 p i.2 in
     let o = paper-once bs i.0 b i.1 in
     let none : i.0.1 ≡ [] = nil_from_length i.0.1 (eqb-true (length i.0.1) 0 j.0) in
-    subst (λ (q : Metadata). Wf q × (text_of q ≡ bs)) j.1 (o.1, sym (append-nil (text_of i.0.0)) ∙ ap (λ l. text_of i.0.0 ++ l) (sym none) ∙ o.0)
+    subst (λ (q : Metadata). Wf q × (paper_text q ≡ bs)) j.1 (o.1, sym (append-nil (paper_text i.0.0)) ∙ ap (λ l. paper_text i.0.0 ++ l) (sym none) ∙ o.0)
 
-text-back : (p : Metadata) → WellFormed p → Bytes (bytes_of_paper p) → text_in (text_of p) ≡ Ok p
-text-back p w b = text-whole (text_of p) [] p (ap paper.read (sym (append-nil (text_of p))) ∙ paper-back p [] (paper-again p w b)) refl
+text-back : (p : Metadata) → WellFormed p → Bytes (bytes_of_paper p) → text_in (paper_text p) ≡ Ok p
+text-back p w b = text-whole (paper_text p) [] p (ap paper.read (sym (append-nil (paper_text p))) ∙ paper-back p [] (paper-again p w b)) refl
 
 pub one-text : OneText
 one-text = record {

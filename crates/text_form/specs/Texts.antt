@@ -11,7 +11,7 @@ use Rattle.line.specs.declared.expected.Word.TheVariants as word
 use Rattle.line.specs.declared.expected.Expected.TheVariants as expected
 use Rattle.line.specs.declared.kind.Kind.{Kind}
 use Rattle.line.specs.declared.kind.Kind.TheVariants as kind
-use Rattle.text_next.specs.Texts.{text_of}
+use Rattle.text_next.specs.Texts.{paper_text}
 use Rattle.text_form.specs.Chains.{chain}
 
 -- a number from 1 on, and any number, of four bytes
@@ -122,7 +122,7 @@ Wf (ATargets t) = targets.Wf t
 abbrev pub paper : FormatOf Bad Metadata
 paper = record {
   read = λ bs. and_then (line_of_kind.read bs) (λ p. of_kind p.0 p.1);
-  write = text_of;
+  write = paper_text;
   Wf = Wf;
 }
 

@@ -50,8 +50,8 @@ targets_text t =
     (numbered (codes "files") (length t.files) ++ (flat_map file_text t.files ++
     (numbered (codes "branches") (length t.delegations) ++ flat_map delegation_text t.delegations))))))
 
-abbrev pub text_of : Metadata → List ℕ
-text_of (ARoot r) = root_text r
-text_of (ATimestamp t) = timestamp_text t
-text_of (ASnapshot x) = snapshot_text x
-text_of (ATargets t) = targets_text t
+abbrev pub paper_text : Metadata → List ℕ
+paper_text (ARoot r) = root_text r
+paper_text (ATimestamp t) = timestamp_text t
+paper_text (ASnapshot x) = snapshot_text x
+paper_text (ATargets t) = targets_text t

@@ -3,7 +3,7 @@ ghost use Rattle.std.specs.Prelude.{◌≡◌, ◌++◌, length, IfOk, OnOk};
 ghost use Rattle.std.specs.List.{flat_map};
 ghost use Rattle.wire.specs.Views.{quorum_of};
 ghost use Rattle.metadata.specs.Views.{root_of, timestamp_of, meta_of, metas_of, snapshot_of, file_of, files_of, delegation_of, delegations_of, targets_of, metadata_of};
-ghost use Rattle.text_next.specs.Texts.{key_text, quorum_text, head_text, root_text, timestamp_text, meta_text, snapshot_text, file_text, last_text, delegation_text, targets_text, text_of};
+ghost use Rattle.text_next.specs.Texts.{key_text, quorum_text, head_text, root_text, timestamp_text, meta_text, snapshot_text, file_text, last_text, delegation_text, targets_text, paper_text};
 
 use line::writer::{write_bytes, write_number, write_steps, write_word};
 use metadata::paper::Metadata;
@@ -217,7 +217,7 @@ fn write_targets(heap: Global, out: &mut Text, targets: Targets<'_>) -> Result<(
 }
 
 fn write_metadata(heap: Global, out: &mut Text, paper: Metadata<'_>) -> Result<(), AllocError>
-    ensures { OnOk result (out.new.items ≡ out.old.items ++ text_of (metadata_of paper.entry)) }
+    ensures { OnOk result (out.new.items ≡ out.old.items ++ paper_text (metadata_of paper.entry)) }
 {
     match paper {
         Metadata::Root(root) => write_root(heap, out, root),
@@ -229,7 +229,7 @@ fn write_metadata(heap: Global, out: &mut Text, paper: Metadata<'_>) -> Result<(
 
 /// The text of a paper.
 pub fn text_of(heap: Global, paper: Metadata<'_>) -> Result<Vec<u8>, AllocError>
-    ensures { IfOk result (λ v. v.items ≡ text_of (metadata_of paper.entry)) }
+    ensures { IfOk result (λ v. v.items ≡ paper_text (metadata_of paper.entry)) }
 {
     let mut out = Vec::new(heap);
     write_metadata(heap, &mut out, paper)?;
