@@ -2,9 +2,10 @@
 #![tactic(auto)]
 
 use anyhow::anyhow;
-use device_next::answer::Answer;
 use device_next::state::Device;
-use running::run::{Line, run};
+use device_next::stop::Stop;
+use model::answer::{Answer, Line};
+use running::run::run;
 use signature::stand_in::StandIn;
 use std::io::Read;
 use std::{env, fs};
@@ -23,22 +24,23 @@ fn events(rt: &HostRuntime, file: Option<String>) -> anyhow::Result<Vec<u8>> {
     }
 }
 
+fn print(rt: &HostRuntime, answer: Answer) -> anyhow::Result<()> {
+    let line = Line(answer);
+    println!(rt; "{line}")?;
+    Ok(())
+}
+
 /// Prints an answer for the first root, and for each item.
 fn serve(rt: &HostRuntime, root: &[u8], stream: &[u8]) -> anyhow::Result<()> {
     let heap = rt.alloc();
-    match Device::new(heap, root)? {
-        Ok(mut device) => {
-            let first = Line(Answer::Taken);
-            println!(rt; "{first}")?;
-            for answer in &run(heap, &StandIn, &mut device, stream)? {
-                let line = Line(*answer);
-                println!(rt; "{line}")?;
-            }
-        }
-        Err(fault) => {
-            let line = Line(Answer::Refused(fault));
-            println!(rt; "{line}")?;
-        }
+    let mut device = match Device::new(heap, root) {
+        Ok(device) => device,
+        Err(Stop::Refused(fault)) => return print(rt, Err(fault)),
+        Err(Stop::Memory(error)) => return Err(error.into()),
+    };
+    print(rt, Ok(()))?;
+    for answer in &run(heap, &StandIn, &mut device, stream)? {
+        print(rt, *answer)?;
     }
     Ok(())
 }

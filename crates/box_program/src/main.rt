@@ -2,6 +2,7 @@
 #![tactic(auto)]
 
 use device::run::run;
+use model::answer::Line;
 use std::io::Read;
 
 /// Reads the stream to its end, and prints the answers.
@@ -10,7 +11,8 @@ fn serve(rt: &HostRuntime) -> anyhow::Result<()> {
     let mut stream = Vec::new(heap);
     rt.stdin().read_to_end(&mut stream)?;
     for answer in &run(heap, &stream)? {
-        println!(rt; "{answer}")?;
+        let line = Line(*answer);
+        println!(rt; "{line}")?;
     }
     Ok(())
 }

@@ -29,9 +29,10 @@ impl Calendar {
     pub fn begin(self, day: u64) -> Result<Self, Fault>
         ensures { MatchResult result (λ c. (day_fault self.today day ≡ Passes) × (c.today ≡ day)) (λ f. day_fault self.today day ≡ Fails f) }
     {
-        match self.today.checked_add(1) {
-            Some(next) if next == day => Ok(Calendar { today: day }),
-            _ => Err(Fault::OutOfRange),
-        }
+        self.today
+            .checked_add(1)
+            .filter(|next| *next == day)
+            .map(|today| Calendar { today })
+            .ok_or(Fault::OutOfRange)
     }
 }

@@ -1,24 +1,23 @@
 -- What a check says of the paper that was read. Assumes nothing.
-use Rattle.std.specs.Prelude.{ℕ, Ok, Err, codes, Result}
+use Rattle.std.specs.Prelude.{ℕ, List, ◌++◌, Ok, Err, codes, decimal, Result}
 use Rattle.model.specs.declared.fault.Fault.{Fault}
 use Rattle.model.specs.Metadata as model
-use mathlib.Core.List as lists
-use Rattle.desk.specs.declared.Kind.{Kind}
-use Rattle.desk.specs.declared.Kind.TheVariants.{Root, Clock, Index, List}
-use Rattle.desk.specs.declared.Checked.{Checked}
-use Rattle.desk.specs.declared.Checked.TheVariants.{Good, Bad}
+use Rattle.line.specs.Words.{kind_word}
+use Rattle.line.specs.declared.kind.Kind.{Kind}
+use Rattle.line.specs.declared.kind.Kind.TheVariants as kind
+use Rattle.desk.specs.declared.Good.{Good}
+
+abbrev pub good : Kind → ℕ → Good
+good k n = record { kind = k; number = n }
 
 -- the kind and number of a paper, or the fault
-abbrev pub checked_of : Result model.Metadata Fault → Checked
-checked_of (Ok (model.ARoot r)) = Good Root r.version
-checked_of (Ok (model.ATimestamp t)) = Good Clock t.version
-checked_of (Ok (model.ASnapshot x)) = Good Index x.version
-checked_of (Ok (model.ATargets t)) = Good List t.version
-checked_of (Err f) = Bad f
+abbrev pub checked_of : Result model.Metadata Fault → Result Good Fault
+checked_of (Ok (model.ARoot r)) = Ok (good kind.Root r.version)
+checked_of (Ok (model.ATimestamp t)) = Ok (good kind.Clock t.version)
+checked_of (Ok (model.ASnapshot x)) = Ok (good kind.Index x.version)
+checked_of (Ok (model.ATargets t)) = Ok (good kind.List t.version)
+checked_of (Err f) = Err f
 
--- the users' word for a kind
-abbrev pub word_of : Kind → lists.List ℕ
-word_of Root = codes "root"
-word_of Clock = codes "clock"
-word_of Index = codes "index"
-word_of List = codes "list"
+-- as users read it
+abbrev pub good_text : Good → List ℕ
+good_text g = codes "ok " ++ (kind_word g.kind ++ (codes " " ++ decimal g.number))

@@ -4,10 +4,9 @@ use Rattle.model.specs.declared.fault.Fault.{Fault}
 use Rattle.model.specs.Metadata.{Digest, Root, Snapshot}
 use Rattle.model.specs.Device.{fresh}
 use Rattle.model.specs.Device as model
+use Rattle.model.specs.Answers.{Answer, answer_of}
 use Rattle.model.specs.Run.{Event, step, run, answers}
-use Rattle.device.specs.declared.run.Answer.{Answer}
-use Rattle.device.specs.declared.run.Answer.TheVariants.{Refused}
-use Rattle.device.specs.Stream.{answer_of, Steps, item_in, Streams, ends, item, stops, Answered}
+use Rattle.device.specs.Stream.{Steps, item_in, Streams, ends, item, stops, Answered}
 
 -- what is left stands for what is left of the events; those done are answered
 pub record Ran (whole left : List ℕ) (said : List Answer) (today : ℕ) : Type 0 where
@@ -55,12 +54,12 @@ ran-end whole left said today b e = record {
   says = λ h r. b.says h r ∙ (ap (λ (l : List Event). answers h l (fresh r)) (sym (append-nil b.done)) ∙ sym (append-nil (answers h (b.done ++ []) (fresh r))));
 }
 
-pub ran-stop : (whole left : List ℕ) (said : List Answer) (today : ℕ) (f : Fault) → Ran whole left said today → ¬ (left ≡ []) → item_in left ≡ Err f → Answered whole (said ++ (Refused f ∷ []))
+pub ran-stop : (whole left : List ℕ) (said : List Answer) (today : ℕ) (f : Fault) → Ran whole left said today → ¬ (left ≡ []) → item_in left ≡ Err f → Answered whole (said ++ (Err f ∷ []))
 ran-stop whole left said today f b n e = record {
   events = b.done ++ [];
   fault = Some f;
   streams = b.reads [] (Some f) (stops n e);
   says = λ h r.
-      map_more said (Refused f) ∙ (ap (λ (l : List model.Answer). l ++ (model.Refused f ∷ [])) (b.says h r) ∙
+      map_more said (Err f) ∙ (ap (λ (l : List model.Answer). l ++ (model.Refused f ∷ [])) (b.says h r) ∙
       ap (λ (l : List Event). answers h l (fresh r) ++ (model.Refused f ∷ [])) (sym (append-nil b.done)));
 }

@@ -5,22 +5,16 @@ use Rattle.model.specs.declared.fault.Fault.TheVariants.{Malformed}
 use Rattle.model.specs.Metadata.{Digest, Root, Snapshot}
 use Rattle.model.specs.Device.{fresh}
 use Rattle.model.specs.Device as model
+use Rattle.model.specs.Answers.{Answer, answer_of}
 use Rattle.model.specs.Run.{Event, Begins, step, answers}
 use Rattle.wire.specs.Formats.{and_then}
 use Rattle.wire.specs.Numbers.{number}
 use Rattle.device.specs.declared.item.Item.{Item}
 use Rattle.device.specs.declared.item.Item.TheVariants.{Day}
-use Rattle.device.specs.declared.run.Answer.{Answer}
-use Rattle.device.specs.declared.run.Answer.TheVariants.{Taken, Refused}
 
 -- the event that an item stands for
 abbrev pub event_of : Item → Event
 event_of (Day day) = Begins day
-
--- the answer of the model that the code's stands for
-abbrev pub answer_of : Answer → model.Answer
-answer_of Taken = model.Taken
-answer_of (Refused f) = model.Refused f
 
 -- any device on this day answers so to the event, and it is then that day
 abbrev pub Steps : ℕ → Event → ℕ → Answer → Type 0

@@ -3,9 +3,9 @@ ghost use Rattle.wire.specs.Formats.{Reads};
 ghost use Rattle.device.specs.Stream.{item_in, event_of};
 
 use model::fault::Fault;
-use wire::number::{read_u8, read_u64};
+use wire::number::read_number;
 
-/// One item of a stream.
+/// One item of a stream. To this box all but days is unknown, so that it reads items by itself: what `stream` cuts, it refuses.
 #[derive(Clone, Copy)]
 pub enum Item {
     /// A day begins, by its number.
@@ -19,14 +19,9 @@ const DAY: u8 = 17;
 pub fn split_item(bytes: &[u8]) -> Result<(Item, &[u8]), Fault>
     ensures { Reads event_of result (item_in bytes.now) }
 {
-    let Some((kind, rest)) = read_u8(bytes) else {
-        return Err(Fault::Malformed);
-    };
-    match kind {
-        DAY => {
-            let Some((day, rest)) = read_u64(rest) else {
-                return Err(Fault::Malformed);
-            };
+    match read_number::<u8, 1>(bytes)? {
+        (DAY, rest) => {
+            let (day, rest) = read_number(rest)?;
             Ok((Item::Day(day), rest))
         }
         _ => Err(Fault::Malformed),

@@ -1,6 +1,5 @@
 //! The box: its state, and what it makes of a stream of items.
 #![tactic(auto)]
 
-pub mod calendar;
 pub mod item;
 pub mod run;

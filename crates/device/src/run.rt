@@ -2,34 +2,10 @@
 ghost use Rattle.std.specs.Prelude.{◌≡◌, IfOk};
 ghost use Rattle.device.specs.Stream.{Answered, Steps, event_of};
 
-use crate::calendar::Calendar;
 use crate::item::{Item, split_item};
-use model::fault::Fault;
+use calendar::Calendar;
+use model::answer::Answer;
 use std::alloc::{AllocError, Global};
-use std::fmt;
-
-/// What a box answers to an item.
-#[derive(Clone, Copy)]
-pub enum Answer {
-    Taken,
-    Refused(Fault),
-}
-
-/// As users read it: `taken`, or the fault's number, and behind 15 the role.
-impl fmt::Display for Answer {
-    fn fmt<W: fmt::Write>(&self, f: &mut fmt::Formatter<W>) -> fmt::Result {
-        match self {
-            Answer::Taken => f.write_str("taken"),
-            Answer::Refused(fault) => {
-                let number = fault.number();
-                match fault {
-                    Fault::Broken(role) => write!(f, "{number} {role}"),
-                    _ => write!(f, "{number}"),
-                }
-            }
-        }
-    }
-}
 
 /// One item is answered.
 pub fn step(calendar: Calendar, item: Item) -> (Calendar, Answer)
@@ -37,13 +13,14 @@ pub fn step(calendar: Calendar, item: Item) -> (Calendar, Answer)
 {
     match item {
         Item::Day(day) => match calendar.begin(day) {
-            Ok(next) => (next, Answer::Taken),
-            Err(fault) => (calendar, Answer::Refused(fault)),
+            Ok(next) => (next, Ok(())),
+            Err(fault) => (calendar, Err(fault)),
         },
     }
 }
 
-/// The answers to a stream of items, one for each. A fault in the stream is the last answer.
+/// The answers to a stream of items, one for each. A fault in the stream is the last answer. Of `running`'s run only the loop is alike: items,
+/// state and steps are others.
 pub fn run(heap: Global, bytes: &[u8]) -> Result<Vec<Answer>, AllocError>
     ensures { IfOk result (λ v. Answered bytes.now v.items) }
 {
@@ -54,7 +31,7 @@ pub fn run(heap: Global, bytes: &[u8]) -> Result<Vec<Answer>, AllocError>
         let (item, rest) = match split_item(left) {
             Ok(read) => read,
             Err(fault) => {
-                answers.push(Answer::Refused(fault))?;
+                answers.push(Err(fault))?;
                 return Ok(answers);
             }
         };
@@ -69,14 +46,16 @@ pub fn run(heap: Global, bytes: &[u8]) -> Result<Vec<Answer>, AllocError>
 #[cfg(test)]
 mod tests {
     use super::*;
+    use model::answer::Line;
+    use model::fault::Fault;
     use std::test::Fail;
 
     // What is printed for a stream, line by line.
     fn printed(heap: Global, bytes: &[u8]) -> Result<String, AllocError> {
         let mut text = String::new(heap);
         for answer in &run(heap, bytes)? {
-            let line = format!(in heap; "{answer};")?;
-            text.push_str(&line)?;
+            let line = Line(*answer);
+            text.push_str(&format!(in heap; "{line};")?)?;
         }
         Ok(text)
     }
@@ -96,8 +75,8 @@ mod tests {
 
     #[test]
     fn a_broken_look_up_is_told_with_its_role(rt: HostRuntime) -> Result<(), Fail> {
-        let answer = Answer::Refused(Fault::Broken(3));
-        assert!(rt; format!(in rt.alloc(); "{answer}")?.as_str() == "15 3");
+        let line = Line(Err(Fault::Broken(3)));
+        assert!(rt; format!(in rt.alloc(); "{line}")?.as_str() == "15 3");
         Ok(())
     }
 }

@@ -1,12 +1,14 @@
 //! The cases.
 use crate::papers::{FIRST, KEY, Paper, SECOND, bytes_of};
-use device_next::answer::Answer;
 use device_next::state::Device;
+use device_next::stop::{Stop, answer_to as told};
+use model::answer::Answer;
 use signature::part::read_signatures;
 use signature::stand_in::{StandIn, sign_stand_in};
 use std::alloc::{AllocError, Global};
 use std::process::Abort;
 use std::test::Fail;
+use stream::Offer;
 
 /// What comes to a box.
 #[derive(Clone, Copy)]
@@ -21,8 +23,8 @@ type Case<'a> = (&'a str, Event<'a>, u8, u32);
 
 fn number_of(answer: Answer) -> u8 {
     match answer {
-        Answer::Taken => 0,
-        Answer::Refused(fault) => fault.number(),
+        Ok(()) => 0,
+        Err(fault) => fault.number(),
     }
 }
 
@@ -43,7 +45,8 @@ fn offer(heap: Global, device: &mut Device, paper: &[u8], part: &[u8]) -> Result
     let Ok((signatures, _)) = read_signatures(part) else {
         return Ok(u8::MAX);
     };
-    Ok(number_of(device.offer(heap, &StandIn, paper, signatures)?))
+    let offer = Offer { paper, signatures };
+    Ok(number_of(told(device.offer(heap, &StandIn, offer))?))
 }
 
 fn answer_to(heap: Global, device: &mut Device, event: Event<'_>) -> Result<u8, AllocError> {
@@ -83,9 +86,10 @@ fn try_all(
 /// A box whose first root has the version 1, and what comes to it.
 fn run(rt: &impl Abort, heap: Global, cases: &[Case<'_>]) -> Result<(), Fail> {
     let root = bytes_of(heap, Paper::Root(1, FIRST, FIRST))?;
-    match Device::new(heap, &root)? {
+    match Device::new(heap, &root) {
         Ok(mut device) => try_all(rt, heap, &mut device, cases),
-        Err(_) => Err(Fail::new("the first root is refused")),
+        Err(Stop::Refused(_)) => Err(Fail::new("the first root is refused")),
+        Err(Stop::Memory(error)) => Err(error.into()),
     }
 }
 

@@ -1,11 +1,11 @@
 //! What comes to a box, by its bytes.
 use digest::sha256;
-use encoding::leaf::{write_u8, write_u16, write_u32};
-use encoding_papers::paper::{paper_bytes, write_delegation, write_meta};
+use encoding::leaf::{write_count, write_number};
+use encoding_papers::paper::{Encode, paper_bytes};
 use metadata::paper::Metadata;
 use metadata::root::Root;
-use metadata::snapshot::Meta;
-use metadata::targets::Delegation;
+use metadata::snapshot::{Meta, Metas};
+use metadata::targets::{Delegation, Delegations};
 use metadata::timestamp::Timestamp;
 use std::alloc::{AllocError, Global};
 use wire::key::Bytes32;
@@ -79,16 +79,16 @@ fn timestamp(
 
 fn snapshot(heap: Global, version: u32, roles: &[(u16, u32)]) -> Result<Vec<u8>, AllocError> {
     let mut out = Vec::new(heap);
-    write_u8(&mut out, 3)?;
-    write_u32(&mut out, version)?;
-    write_u32(&mut out, LAST_DAY)?;
-    write_u16(&mut out, (roles.len() % 65536) as u16)?;
+    write_number(&mut out, 3u8)?;
+    write_number(&mut out, version)?;
+    write_number(&mut out, LAST_DAY)?;
+    write_number(&mut out, (roles.len() % 65536) as u16)?;
     for (role, version) in roles {
         let meta = Meta {
             role: *role,
             version: *version,
         };
-        write_meta(&mut out, meta)?;
+        Metas::write(&mut out, meta)?;
     }
     Ok(out)
 }
@@ -96,12 +96,12 @@ fn snapshot(heap: Global, version: u32, roles: &[(u16, u32)]) -> Result<Vec<u8>,
 /// Targets with no files.
 fn targets(heap: Global, role: u16, version: u32, to: &[(u16, u8)]) -> Result<Vec<u8>, AllocError> {
     let mut out = Vec::new(heap);
-    write_u8(&mut out, 4)?;
-    write_u16(&mut out, role)?;
-    write_u32(&mut out, version)?;
-    write_u32(&mut out, LAST_DAY)?;
-    write_u16(&mut out, 0)?;
-    write_u8(&mut out, (to.len() % 256) as u8)?;
+    write_number(&mut out, 4u8)?;
+    write_number(&mut out, role)?;
+    write_number(&mut out, version)?;
+    write_number(&mut out, LAST_DAY)?;
+    write_number(&mut out, 0u16)?;
+    write_count(&mut out, to.len())?;
     for (role, key) in to {
         let delegation = Delegation {
             role: *role,
@@ -112,7 +112,7 @@ fn targets(heap: Global, role: u16, version: u32, to: &[(u16, u8)]) -> Result<Ve
             prefix: &[],
             terminating: false,
         };
-        write_delegation(&mut out, delegation)?;
+        Delegations::write(&mut out, delegation)?;
     }
     Ok(out)
 }

@@ -1,3 +1,5 @@
+pub mod Octets
+pub mod Stopping
 pub mod Stepping
 pub mod Sifting
 pub mod ModelledNotes

@@ -1,8 +1,9 @@
 -- Offers of bytes lead to devices of the law that can be reached, and to what it promises of them. Assumes nothing.
-use Rattle.std.proofs.Common.{◌≡◌, ℕ, Bool, T, List, [], map, Some, None, Ok, Err, Option, Result, sym, refl, ap, ◌∙◌, subst, MatchResult}
+use Rattle.std.proofs.Common.{◌≡◌, ℕ, Bool, T, List, [], map, Some, None, Ok, Err, Option, Result, sym, refl, ap, ◌∙◌, subst}
 use Rattle.model.specs.declared.fault.Fault.{Fault}
 use Rattle.model.specs.Metadata.{Key, Root, Metadata, ARoot, ATimestamp, ASnapshot, ATargets}
 use Rattle.model.specs.Device.{Device, Outcome, settle}
+use Rattle.model.specs.Answers.{Answer}
 use Rattle.model.specs.Run.{Offers, Begins, Asks, step, day_fault}
 use Rattle.model.specs.Run as law
 use Rattle.model.specs.Onward.{Onwards}
@@ -22,7 +23,9 @@ use Rattle.device_next.specs.Offers.{offer_of, offered_as, offered_bytes, outcom
 use Rattle.device_next.specs.Starts.{only_root, Started, StartsReached}
 use Rattle.device_next.specs.declared.state.Device.{Device as Box}
 use Rattle.device_next.specs.Steps.{Settled, OfferStep, DayStep, on_day}
-use Rattle.device_next.specs.declared.answer.Answer.{Answer}
+use Rattle.device_next.specs.Stops.{MatchStop}
+use Rattle.device_next.specs.declared.stop.Stop.{Stop}
+use Rattle.device_next.specs.declared.stop.Stop.TheVariants.{Memory, Refused}
 use Rattle.device_next.proofs.ModelledSteps.{unread-modelled, timestamp-modelled, snapshot-modelled, targets-modelled, root-modelled}
 
 module _ (accepts : Accepts) (signed : Key → List ℕ → Bool) (sound : (k m s : List ℕ) → T (accepts k m s) → T (signed k m)) (h : Held) (b : Bytes h.paper) where
@@ -86,11 +89,12 @@ promised-same signed r d new e reached =
     }
 
 -- whether there was memory or not
-pub promised-offer : {E : Type 0} (accepts : Accepts) (signed : Key → List ℕ → Bool) (sound : (k m s : List ℕ) → T (accepts k m s) → T (signed k m)) (h : Held) → Bytes h.paper → (s then : Holding) (r : Result Answer E) →
-    MatchResult r (λ (a : Answer). offered_bytes accepts h (device_of accepts s) ≡ outcome_of accepts a then) (λ _. device_of accepts then ≡ device_of accepts s) →
+pub promised-offer : (accepts : Accepts) (signed : Key → List ℕ → Bool) (sound : (k m s : List ℕ) → T (accepts k m s) → T (signed k m)) (h : Held) → Bytes h.paper → (s then : Holding) (r : Result (Unit {0}) Stop) →
+    MatchStop r (λ (a : Answer). offered_bytes accepts h (device_of accepts s) ≡ outcome_of accepts a then) (device_of accepts then ≡ device_of accepts s) →
     (first : Root) → Reached (world_of signed) first (device_of accepts s) → Promised (world_of signed) first (device_of accepts s) (device_of accepts then)
-promised-offer accepts signed sound h b s then (Ok a) k first = promised-step accepts signed sound h b first s then a k
-promised-offer accepts signed sound h b s then (Err e) k first = promised-same signed first (device_of accepts s) (device_of accepts then) k
+promised-offer accepts signed sound h b s then (Ok x) k first = promised-step accepts signed sound h b first s then (Ok x) k
+promised-offer accepts signed sound h b s then (Err (Refused f)) k first = promised-step accepts signed sound h b first s then (Err f) k
+promised-offer accepts signed sound h b s then (Err (Memory e)) k first = promised-same signed first (device_of accepts s) (device_of accepts then) k
 
 -- DAYS
 

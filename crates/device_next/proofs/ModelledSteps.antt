@@ -5,6 +5,7 @@ use Rattle.model.specs.declared.fault.Fault.TheVariants.{NotEnough, NotNext, Not
 use Rattle.model.specs.Metadata.{Quorum, Root, Timestamp, Snapshot, Targets, ARoot, ATimestamp, ASnapshot, ATargets, Offer}
 use Rattle.model.specs.Quorums.{enough}
 use Rattle.model.specs.Device as law
+use Rattle.model.specs.Answers.{Answer, answer_of}
 use Rattle.model.specs.Device.{settle}
 use Rattle.model.specs.Taking.{Check, must, first_fault, in_time, newer, covers_kept, current, when_asked, stays, quorum_for, noted_if, offered, timestamp_checks, take_timestamp, snapshot_checks, take_snapshot, targets_checks, take_targets, root_checks, take_root}
 use Rattle.model.specs.Journal.{room}
@@ -16,10 +17,8 @@ use Rattle.signature.specs.Signatures.{Accepts}
 use Rattle.update.specs.Asked.{if_asked}
 use Rattle.journal.specs.Notes.{Note, room_in}
 use Rattle.device_next.specs.Holding.{Held, Holding, as_root, as_timestamp, as_snapshot, as_targets, paper_of, signers_of, signed_of, journal_of, device_of, snapshot_digest}
-use Rattle.device_next.specs.Offers.{answer_of, offer_of, offered_as, offered_bytes, outcome_of, Clean}
+use Rattle.device_next.specs.Offers.{offer_of, offered_as, offered_bytes, outcome_of, Clean}
 use Rattle.device_next.specs.Steps.{root_in, timestamp_in, snapshot_in, NoteBy, Settled, timestamp_faults, with_timestamp, TimestampStep, snapshot_faults, with_snapshot, SnapshotStep, asked_for, targets_faults, with_targets, StepUnder, TargetsStep, root_faults, with_root, RootStep}
-use Rattle.device_next.specs.declared.answer.Answer.{Answer}
-use Rattle.device_next.specs.declared.answer.Answer.TheVariants.{Refused}
 use Rattle.device_next.proofs.ModelledNotes.{room-journal, room-root-journal, paper-read, noted-journal, noted-root-journal}
 use Rattle.device_next.proofs.ModelledTargets.{asked-for, listed_kept, others-kept, keep-mapped, digest-read, named_by}
 
@@ -34,7 +33,7 @@ module _ (accepts : Accepts) where
       at (Some f) same k = λ i. record { device = ap (device_of accepts) (sym k.1) i; answer = ap answer_of (sym k.0) i }
 
   -- bytes of no paper are refused
-  pub unread-modelled : (h : Held) (s : Holding) (f : Fault) → paper_in h.paper ≡ Err f → offered_bytes accepts h (device_of accepts s) ≡ outcome_of accepts (Refused f) s
+  pub unread-modelled : (h : Held) (s : Holding) (f : Fault) → paper_in h.paper ≡ Err f → offered_bytes accepts h (device_of accepts s) ≡ outcome_of accepts (Err f) s
   unread-modelled h s f e = ap (offered_as accepts h (device_of accepts s)) e
 
   module _ (h : Held) (s : Holding) (a : Answer) (after : Holding) (b : Bytes h.paper) (c : Clean s) where

@@ -1,5 +1,5 @@
 -- What code shows of an offer, put together. Assumes nothing.
-use Rattle.std.proofs.Common.{◌≡◌, ℕ, Bool, true, false, cond, eqb, List, [], ◌∷◌, ◌++◌, map, is_some, Some, None, Option, sym, refl, ap, ◌∙◌, subst, true≢false}
+use Rattle.std.proofs.Common.{◌≡◌, ℕ, Bool, true, false, cond, eqb, List, [], ◌∷◌, ◌++◌, map, is_some, Some, None, Ok, Err, Option, sym, refl, ap, ◌∙◌, subst, true≢false}
 use Rattle.std.specs.Option.{option_map}
 use Rattle.model.specs.declared.fault.Fault.{Fault}
 use Rattle.model.specs.declared.fault.Fault.TheVariants.{NotEnough, NotNamed, Regresses, Expired}
@@ -13,13 +13,12 @@ use Rattle.signature.specs.Views.{signature_of}
 use Rattle.journal.specs.Notes.{Note}
 use Rattle.device_next.specs.Holding.{Held, Holding, signers_of}
 use Rattle.device_next.specs.Steps.{NoteBy, Settled, Stepped, root_in, root_faults, with_root, RootStep, targets_in, or_else, delegated_in}
-use Rattle.device_next.specs.declared.answer.Answer.TheVariants.{Taken, Refused}
 
-pub settled-refused : (r : Option Fault) (f : Fault) (new s : Holding) → r ≡ Some f → Settled r new s (Refused f) s
-settled-refused r f new s e = subst (λ (x : Option Fault). Settled x new s (Refused f) s) (sym e) (refl, refl)
+pub settled-refused : (r : Option Fault) (f : Fault) (new s : Holding) → r ≡ Some f → Settled r new s (Err f) s
+settled-refused r f new s e = subst (λ (x : Option Fault). Settled x new s (Err f) s) (sym e) (refl, refl)
 
-pub settled-taken : (r : Option Fault) (new s after : Holding) → r ≡ None → after ≡ new → Settled r new s Taken after
-settled-taken r new s after e h = subst (λ (x : Option Fault). Settled x new s Taken after) (sym e) (refl, h)
+pub settled-taken : (r : Option Fault) (new s after : Holding) → r ≡ None → after ≡ new → Settled r new s (Ok tt) after
+settled-taken r new s after e h = subst (λ (x : Option Fault). Settled x new s (Ok tt) after) (sym e) (refl, h)
 
 module _ (accepts : Accepts) (h : Held) where
   abbrev pub Picked : Quorum → List (List ℕ) → Type 0
@@ -37,12 +36,12 @@ module _ (accepts : Accepts) (h : Held) where
     judged : first_fault (faults met) ≡ first_fault (faults (enough q (signers_of accepts h)))
     judged = ap (λ (b : Bool). first_fault (faults b)) (is-met ∙ ap (λ (x : Quorum). enough x (signers_of accepts h)) e)
 
-    pub step-refused : (f : Fault) → first_fault (faults met) ≡ Some f → Stepped accepts h q faults new s (Refused f) s
+    pub step-refused : (f : Fault) → first_fault (faults met) ≡ Some f → Stepped accepts h q faults new s (Err f) s
     step-refused f k =
         let n : Note = record { quorum = q; day = s.today; paper = h.paper; signatures = sigs } in
         record { note = n; by = note-by q r sigs s.today n e p refl refl refl refl; settled = settled-refused _ f (new n) s (sym judged ∙ k) }
 
-    pub step-taken : (n : Note) (after : Holding) → first_fault (faults met) ≡ None → n.quorum ≡ q → n.day ≡ s.today → n.paper ≡ h.paper → n.signatures ≡ sigs → after ≡ new n → Stepped accepts h q faults new s Taken after
+    pub step-taken : (n : Note) (after : Holding) → first_fault (faults met) ≡ None → n.quorum ≡ q → n.day ≡ s.today → n.paper ≡ h.paper → n.signatures ≡ sigs → after ≡ new n → Stepped accepts h q faults new s (Ok tt) after
     step-taken n after k nq nd np ns is = record { note = n; by = note-by q r sigs s.today n e p nq nd np ns; settled = settled-taken _ (new n) s after (sym judged ∙ k) is }
 
 -- the same parts make the same whole
@@ -86,7 +85,7 @@ module _ (accepts : Accepts) (h : Held) (r : Root) (s : Holding) (q : Quorum) (e
   root-judged : first_fault (root_faults met own r s) ≡ first_fault (root_faults (enough (root_in s).root (signers_of accepts h)) (enough r.root (signers_of accepts h)) r s)
   root-judged = let a = is-met ∙ ap (λ (x : Quorum). enough x (signers_of accepts h)) e in λ i. first_fault (root_faults (a i) (is-own i) r s)
 
-  pub root-refused : (f : Fault) → first_fault (root_faults met own r s) ≡ Some f → RootStep accepts h r s (Refused f) s
+  pub root-refused : (f : Fault) → first_fault (root_faults met own r s) ≡ Some f → RootStep accepts h r s (Err f) s
   root-refused f k = record {
     old = old_note;
     own = own_note;
@@ -95,7 +94,7 @@ module _ (accepts : Accepts) (h : Held) (r : Root) (s : Holding) (q : Quorum) (e
     settled = settled-refused _ f (with_root h r old_note own_note s) s (sym root-judged ∙ k);
   }
 
-  pub root-taken : (after : Holding) → first_fault (root_faults met own r s) ≡ None → after ≡ with_root h r old_note own_note s → RootStep accepts h r s Taken after
+  pub root-taken : (after : Holding) → first_fault (root_faults met own r s) ≡ None → after ≡ with_root h r old_note own_note s → RootStep accepts h r s (Ok tt) after
   root-taken after k is = record {
     old = old_note;
     own = own_note;

@@ -1,4 +1,5 @@
 pub mod Kinds
+pub mod Stops
 pub mod Holding
 pub mod Views
 pub mod Steps

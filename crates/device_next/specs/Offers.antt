@@ -5,6 +5,7 @@ use Rattle.model.specs.declared.fault.Fault.{Fault}
 use Rattle.model.specs.Metadata.{Key, Root, Metadata, Offer}
 use Rattle.model.specs.Journal.{Entry}
 use Rattle.model.specs.Device as law
+use Rattle.model.specs.Answers.{Answer, answer_of}
 use Rattle.model.specs.Taking.{offered}
 use Rattle.model.specs.World.{World, Vouches, Chain, Reached}
 use Rattle.model.specs.Onward.{Onwards}
@@ -14,13 +15,6 @@ use Rattle.metadata.specs.Papers.{paper_in, bytes_of_paper}
 use Rattle.signature.specs.Signatures.{Accepts}
 use Rattle.journal.specs.Notes.{Note}
 use Rattle.device_next.specs.Holding.{Held, Holding, signers_of, device_of, snapshot_digest}
-use Rattle.device_next.specs.declared.answer.Answer.{Answer}
-use Rattle.device_next.specs.declared.answer.Answer.TheVariants.{Taken, Refused}
-
--- the answer of the law
-abbrev pub answer_of : Answer → law.Answer
-answer_of Taken = law.Taken
-answer_of (Refused f) = law.Refused f
 
 -- the offer of the law: a paper, with the keys of the right signatures of its bytes
 abbrev pub offer_of : Accepts → Held → Metadata → Offer

@@ -8,6 +8,7 @@ use Rattle.model.specs.Metadata.{Quorum, Root, Timestamp, Snapshot, Delegation, 
 use Rattle.model.specs.Quorums.{enough}
 use Rattle.model.specs.Taking.{Check, must, first_fault, in_time, stays, keep_if, newer, named, version_in, covers_kept, current, when_asked}
 use Rattle.model.specs.Run.{day_fault}
+use Rattle.model.specs.Answers.{Answer}
 use Rattle.digest.specs.Sha256.{sha256}
 use Rattle.signature.specs.Counting.{Chosen}
 use Rattle.signature.specs.Signatures.{Accepts}
@@ -15,8 +16,6 @@ use Rattle.signature.specs.Views.{signature_of}
 use Rattle.update.specs.Asked.{if_asked}
 use Rattle.journal.specs.Notes.{Note, room_in, room_for_root, noted_in}
 use Rattle.device_next.specs.Holding.{Held, Holding, as_root, as_timestamp, as_snapshot, as_targets, paper_of, signers_of}
-use Rattle.device_next.specs.declared.answer.Answer.{Answer}
-use Rattle.device_next.specs.declared.answer.Answer.TheVariants.{Taken, Refused}
 
 abbrev pub root_in : Holding → Root
 root_in s = as_root (paper_of s.root.paper)
@@ -39,8 +38,8 @@ pub record NoteBy (accepts : Accepts) (h : Held) (q : Quorum) (today : ℕ) (n :
 
 -- the answer, and what is then kept: the new if there is no fault, else the old
 abbrev pub Settled : Option Fault → Holding → Holding → Answer → Holding → Type 0
-Settled None new old a after = (a ≡ Taken) × (after ≡ new)
-Settled (Some f) new old a after = (a ≡ Refused f) × (after ≡ old)
+Settled None new old a after = (a ≡ Ok tt) × (after ≡ new)
+Settled (Some f) new old a after = (a ≡ Err f) × (after ≡ old)
 
 -- an offer under one quorum: what speaks against it, and what is kept if nothing does
 pub record Stepped (accepts : Accepts) (h : Held) (q : Quorum) (faults : Bool → List Check) (new : Note → Holding) (s : Holding) (a : Answer) (after : Holding) : Type 0 where
@@ -147,7 +146,7 @@ PaperStep (ATargets t) accepts h s a after = TargetsStep accepts h t s a after
 -- what does not read is refused with its fault
 abbrev pub OfferStep : Result Metadata Fault → Accepts → Held → Holding → Answer → Holding → Type 0
 OfferStep (Ok p) accepts h s a after = PaperStep p accepts h s a after
-OfferStep (Err f) accepts h s a after = (a ≡ Refused f) × (after ≡ s)
+OfferStep (Err f) accepts h s a after = (a ≡ Err f) × (after ≡ s)
 
 abbrev pub on_day : ℕ → Holding → Holding
 on_day day s = record { root = s.root; timestamp = s.timestamp; snapshot = s.snapshot; targets = s.targets; notes = s.notes; today = day }

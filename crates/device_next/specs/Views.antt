@@ -2,9 +2,14 @@
 use Rattle.std.specs.Prelude.{ℕ, map, vec_items}
 use Rattle.std.specs.Option.{option_map}
 use Rattle.journal.specs.Views.{notes_of}
+use Rattle.stream.specs.declared.Offer.{Offer}
 use Rattle.device_next.specs.Holding.{Held, Holding}
 use Rattle.device_next.specs.declared.kept.Kept.{Kept}
 use Rattle.device_next.specs.declared.state.Device.{Device}
+
+-- what comes with an offer
+abbrev pub held_in : Offer → Held
+held_in o = record { paper = o.paper.now; signatures = o.signatures.items.now }
 
 abbrev pub held_of : {kind : ℕ} → Kept kind → Held
 held_of k = record { paper = vec_items k.paper; signatures = vec_items k.signatures }

@@ -1,8 +1,6 @@
 //! The box: what it keeps, and what it makes of each offer and each day.
 #![tactic(auto)]
 
-pub mod answer;
-mod counted;
 pub mod kept;
 pub mod offer;
 pub mod read;
@@ -11,5 +9,6 @@ mod sift;
 mod snapshot;
 pub mod start;
 pub mod state;
+pub mod stop;
 mod targets;
 mod timestamp;

@@ -1,76 +1,74 @@
 //! Taking roots.
-ghost use Rattle.std.specs.Prelude.{◌≡◌, Ok as Reads, MatchResult};
+ghost use Rattle.std.specs.Prelude.{◌≡◌, Ok as Reads};
 ghost use Rattle.model.specs.Metadata.{ARoot};
-ghost use Rattle.model.specs.Taking.{first_fault};
 ghost use Rattle.metadata.specs.Papers.{paper_in};
 ghost use Rattle.metadata.specs.Views.{root_of};
+ghost use Rattle.judging.specs.Verdicts.{Verdict};
 ghost use Rattle.device_next.specs.Steps.{root_faults, RootStep};
+ghost use Rattle.device_next.specs.Stops.{MatchStop};
 ghost use Rattle.device_next.specs.Views.{holding_of};
 
-use crate::answer::Answer;
-use crate::counted::count;
 use crate::kept::Kept;
+use crate::read::Paper;
 use crate::state::Device;
-use journal::notes::Backing;
+use crate::stop::Stop;
+use journal::notes::{Backing, Taken};
+use judging::must;
 use metadata::root::Root;
 use model::fault::Fault;
-use rotation::{root_fault, stays};
-use signature::part::Signatures;
+use rotation::{check_root, stays};
+use signature::counting::Signed;
 use signature::verifier::Verifier;
-use std::alloc::{AllocError, Global};
+use std::alloc::Global;
 
 impl Device {
-    /// What speaks against a root, the lowest number first.
-    fn judge_root(&self, offered: Root<'_>, enough: bool, own: bool) -> Option<Fault>
-        ensures { result ≡ first_fault (root_faults enough own (root_of offered.entry) (holding_of self.now)) }
+    /// Judges a root, with the lowest number of what speaks against it.
+    fn judge_root(&self, offered: Root<'_>, enough: bool, own: bool) -> Result<(), Fault>
+        ensures { Verdict (root_faults enough own (root_of offered.entry) (holding_of self.now)) result }
     {
-        let present = self.root.root();
-        if let Some(fault) = root_fault(present, offered, enough, own) {
-            return Some(fault);
-        }
-        if !self.journal.has_room_for_root(present.root, offered.root) {
-            return Some(Fault::Full);
-        }
-        None
+        let present = self.root();
+        check_root(present, offered, enough, own)?;
+        must(
+            self.journal.has_room_for_root(present.root, offered.root),
+            Fault::Full,
+        )
     }
 
     /// A root is offered, which was read from these bytes.
     pub(crate) fn offer_root<V: Verifier>(
         &mut self,
         heap: Global,
-        verifier: &V,
-        paper: &[u8],
-        signatures: Signatures<'_>,
+        signed: Signed<'_, V>,
         offered: Root<'_>,
-    ) -> Result<Answer, AllocError>
-        requires { paper_in paper.now ≡ Reads (ARoot (root_of offered)) }
-        ensures { MatchResult result (λ a. RootStep V.accepts (record { paper = paper.entry.now; signatures = signatures.entry.items.now }) (root_of offered.entry) (holding_of self.old) a (holding_of self.new)) (λ _. holding_of self.new ≡ holding_of self.old) }
+    ) -> Result<(), Stop>
+        requires { paper_in signed.message.now ≡ Reads (ARoot (root_of offered)) }
+        ensures { MatchStop result (λ a. RootStep V.accepts (record { paper = signed.entry.message.now; signatures = signed.entry.signatures.items.now }) (root_of offered.entry) (holding_of self.old) a (holding_of self.new)) (holding_of self.new ≡ holding_of self.old) }
     {
-        let old = count(heap, verifier, self.root.root().root, paper, signatures)?;
-        let own = count(heap, verifier, offered.root, paper, signatures)?;
-        if let Some(fault) = self.judge_root(offered, old.enough, own.enough) {
-            return Ok(Answer::Refused(fault));
-        }
-        let kept = Kept::copy(heap, paper, signatures)?;
-        let keeps = stays(self.root.root(), offered);
-        let today = self.calendar.today();
-        let quorum = self.root.root().root;
+        let old = signed.count(heap, self.root().root)?;
+        let own = signed.count(heap, offered.root)?;
+        self.judge_root(offered, old.is_enough(), own.is_enough())?;
+        let kept = Kept::copy(heap, signed.message, signed.signatures)?;
+        let keeps = stays(self.root(), offered);
+        let taken = Taken {
+            day: self.calendar.today(),
+            paper: signed.message,
+        };
+        let quorum = Root::of(&self.root).root;
         let before = Backing {
             quorum,
             signatures: &old.signatures,
         };
-        let quorum = offered.root;
         let after = Backing {
-            quorum,
+            quorum: offered.root,
             signatures: &own.signatures,
         };
-        self.journal.note_root(heap, before, after, today, paper)?;
+        self.journal.note_root(heap, before, after, taken)?;
         self.root = kept;
         if keeps {
-            return Ok(Answer::Taken);
+            return Ok(());
         }
         self.timestamp = None;
         self.snapshot = None;
-        Ok(Answer::Taken)
+        Ok(())
     }
 }

@@ -1,28 +1,30 @@
 //! Taking targets.
-ghost use Rattle.std.specs.Prelude.{◌≡◌, IfOk, Some as Given, Ok as Reads, MatchResult};
+ghost use Rattle.std.specs.Prelude.{◌≡◌, IfOk, Some as Given, Ok as Reads};
 ghost use Rattle.std.specs.Option.{option_map};
 ghost use Rattle.model.specs.Metadata.{ATargets};
-ghost use Rattle.model.specs.Taking.{first_fault};
 ghost use Rattle.journal.specs.Table.{row_of};
 ghost use Rattle.wire.specs.Views.{quorum_of};
 ghost use Rattle.metadata.specs.Papers.{paper_in};
 ghost use Rattle.metadata.specs.Views.{targets_of};
+ghost use Rattle.judging.specs.Verdicts.{Verdict};
 ghost use Rattle.device_next.specs.Steps.{snapshot_in, delegated_in, asked_for, targets_faults, TargetsStep};
+ghost use Rattle.device_next.specs.Stops.{MatchStop};
 ghost use Rattle.device_next.specs.Views.{holding_of};
 
-use crate::answer::Answer;
-use crate::counted::count;
 use crate::kept::Kept;
+use crate::read::Paper;
 use crate::sift::drop_role;
 use crate::state::Device;
-use journal::notes::Backing;
+use crate::stop::Stop;
+use journal::notes::{Backing, Taken};
 use journal::row::Row;
+use judging::must;
 use metadata::targets::Targets;
 use model::fault::Fault;
-use signature::part::Signatures;
+use signature::counting::Signed;
 use signature::verifier::Verifier;
 use std::alloc::{AllocError, Global};
-use update::targets::{is_current, quorum_in, targets_fault};
+use update::targets::{check_targets, is_current, quorum_in};
 use wire::quorum::Quorum;
 
 impl Device {
@@ -30,8 +32,9 @@ impl Device {
     fn delegated_quorum(&self, role: u16) -> Option<Quorum<'_>>
         ensures { option_map quorum_of result ≡ delegated_in (snapshot_in (holding_of self.now)) role (holding_of self.now).targets }
     {
+        // A loop: no lemma turns what `find_map` ensures over `filter` into the answer for a list.
         for kept in &self.targets {
-            let targets = kept.targets();
+            let targets = Targets::of(kept);
             if is_current(self.snapshot(), targets) {
                 if let Some(quorum) = quorum_in(targets.delegations, role) {
                     return Some(quorum);
@@ -46,7 +49,7 @@ impl Device {
         ensures { option_map quorum_of result ≡ asked_for (holding_of self.now) role }
     {
         if role == 0 {
-            return Some(self.root.root().top);
+            return Some(self.root().top);
         }
         self.delegated_quorum(role)
     }
@@ -55,65 +58,58 @@ impl Device {
     fn copy_quorum(&self, heap: Global, role: u16) -> Result<Option<Row>, AllocError>
         ensures { IfOk result (λ o. option_map row_of o ≡ asked_for (holding_of self.now) role) }
     {
-        match self.quorum_for(role) {
-            Some(quorum) => Ok(Some(Row::copy(heap, quorum)?)),
-            None => Ok(None),
-        }
+        self.quorum_for(role)
+            .map(|quorum| Row::copy(heap, quorum))
+            .transpose()
     }
 
-    /// What speaks against targets for which a quorum is known, the lowest number first.
+    /// Judges targets for which a quorum is known, with the lowest number of what speaks against them.
     fn judge_targets(
         &self,
         offered: Targets<'_>,
         paper: &[u8],
         quorum: Quorum<'_>,
         enough: bool,
-    ) -> Option<Fault>
-        ensures { asked_for (holding_of self.now) offered.entry.role ≡ Given (quorum_of quorum.entry) → result ≡ first_fault (targets_faults (Given enough) (targets_of offered.entry) paper.now (holding_of self.now)) }
+    ) -> Result<(), Fault>
+        ensures { asked_for (holding_of self.now) offered.entry.role ≡ Given (quorum_of quorum.entry) → Verdict (targets_faults (Given enough) (targets_of offered.entry) paper.now (holding_of self.now)) result }
     {
         let today = self.calendar.today();
-        if let Some(fault) = targets_fault(offered, self.snapshot(), today, Some(enough)) {
-            return Some(fault);
-        }
-        if !self.journal.has_room(quorum, paper) {
-            return Some(Fault::Full);
-        }
-        None
+        check_targets(offered, self.snapshot(), today, Some(enough))?;
+        must(self.journal.has_room(quorum, paper), Fault::Full)
     }
 
     /// Targets are offered, which were read from these bytes.
     pub(crate) fn offer_targets<V: Verifier>(
         &mut self,
         heap: Global,
-        verifier: &V,
-        paper: &[u8],
-        signatures: Signatures<'_>,
+        signed: Signed<'_, V>,
         offered: Targets<'_>,
-    ) -> Result<Answer, AllocError>
-        requires { paper_in paper.now ≡ Reads (ATargets (targets_of offered)) }
-        ensures { MatchResult result (λ a. TargetsStep V.accepts (record { paper = paper.entry.now; signatures = signatures.entry.items.now }) (targets_of offered.entry) (holding_of self.old) a (holding_of self.new)) (λ _. holding_of self.new ≡ holding_of self.old) }
+    ) -> Result<(), Stop>
+        requires { paper_in signed.message.now ≡ Reads (ATargets (targets_of offered)) }
+        ensures { MatchStop result (λ a. TargetsStep V.accepts (record { paper = signed.entry.message.now; signatures = signed.entry.signatures.items.now }) (targets_of offered.entry) (holding_of self.old) a (holding_of self.new)) (holding_of self.new ≡ holding_of self.old) }
     {
         let Some(asked) = self.copy_quorum(heap, offered.role)? else {
             if is_current(self.snapshot(), offered) {
-                return Ok(Answer::Refused(Fault::NotDelegated));
+                return Err(Stop::Refused(Fault::NotDelegated));
             }
-            return Ok(Answer::Refused(Fault::NotListed));
+            return Err(Stop::Refused(Fault::NotListed));
         };
-        let counted = count(heap, verifier, asked.quorum(), paper, signatures)?;
-        if let Some(fault) = self.judge_targets(offered, paper, asked.quorum(), counted.enough) {
-            return Ok(Answer::Refused(fault));
-        }
-        let kept = Kept::copy(heap, paper, signatures)?;
-        let today = self.calendar.today();
+        let counted = signed.count(heap, asked.quorum())?;
+        self.judge_targets(offered, signed.message, asked.quorum(), counted.is_enough())?;
+        let kept = Kept::copy(heap, signed.message, signed.signatures)?;
+        let taken = Taken {
+            day: self.calendar.today(),
+            paper: signed.message,
+        };
         let quorum = asked.quorum();
         let backing = Backing {
             quorum,
             signatures: &counted.signatures,
         };
         self.targets.reserve(1)?;
-        self.journal.note(heap, backing, today, paper)?;
+        self.journal.note(heap, backing, taken)?;
         drop_role(&mut self.targets, offered.role);
-        self.targets.insert(0, kept)?;
-        Ok(Answer::Taken)
+        self.targets.insert(0, kept).unwrap();
+        Ok(())
     }
 }

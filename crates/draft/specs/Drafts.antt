@@ -1,16 +1,24 @@
 -- From a whole text to bytes. Assumes nothing.
 use Rattle.std.specs.Prelude.{◌≡◌, ℕ, List, ◌++◌, Ok, Err, Result}
 use Rattle.model.specs.Metadata.{Metadata}
-use Rattle.metadata.specs.Papers.{bytes_of_paper}
+use Rattle.metadata.specs.Papers.{WellFormed, bytes_of_paper}
 use Rattle.line.specs.declared.expected.Bad.{Bad}
 use Rattle.line.specs.declared.expected.Expected.{Expected}
+use Rattle.text.specs.Texts.{paper_text}
 use Rattle.text_form.specs.Texts.{text_in, line_at}
 use Rattle.draft_parts.specs.declared.stop.Stop.{Stop}
 use Rattle.draft_parts.specs.declared.stop.Stop.TheVariants as stop
 use Rattle.draft.specs.declared.paper.TextError.{TextError}
 use Rattle.draft.specs.declared.paper.TextError.TheVariants as refused
 
--- the bytes are those of the paper whose text this is
+-- these are the bytes of a well-formed paper, and that is its text
+pub record Faithful (written bytes : List ℕ) : Type 0 where
+  pub paper : Metadata
+  pub formed : WellFormed paper
+  pub is-text : written ≡ paper_text paper
+  pub is-bytes : bytes ≡ bytes_of_paper paper
+
+-- the bytes are those of the paper that is read from the text
 pub record Drafted (text bytes : List ℕ) : Type 0 where
   pub paper : Metadata
   pub is-text : text_in text ≡ Ok paper

@@ -1,15 +1,15 @@
 //! Papers of any kind, from text to bytes.
-ghost use Rattle.std.specs.Prelude.{◌≡◌, vec_items};
+ghost use Rattle.std.specs.Prelude.{◌≡◌, IfOk, vec_items};
 ghost use Rattle.metadata.specs.Papers.{root as root_w, timestamp as timestamp_w, bytes_of_paper};
 ghost use Rattle.text_form.specs.Texts.{root as root_t, timestamp as timestamp_t, paper as paper_t, line_at};
 ghost use Rattle.draft_parts.specs.Copies.{Copies};
-ghost use Rattle.draft.specs.Drafts.{Wholly, Answers};
+ghost use Rattle.draft.specs.Drafts.{Wholly, Answers, Faithful};
 
 use draft_list::list::put_list;
 use draft_parts::index::put_index;
-use draft_parts::put::{write_u8, write_u32};
 use draft_parts::quorum::put_quorum;
 use draft_parts::stop::Stop;
+use encoding::leaf::write_number;
 use line::expected::{Bad, Expected, Word};
 use line::kind::Kind;
 use line_reader::reader::{bytes_line, kind_line, number_line};
@@ -28,8 +28,8 @@ fn put_root<'a>(text: &'a [u8], out: &mut Vec<u8>) -> Result<&'a [u8], Stop>
 {
     let (number, rest) = number_line(text, Word::Number, 1, 4294967295)?;
     let (last_day, rest) = number_line(rest, Word::LastDay, 0, 4294967295)?;
-    write_u32(out, number as u32)?;
-    write_u32(out, last_day as u32)?;
+    write_number(out, number as u32)?;
+    write_number(out, last_day as u32)?;
     let rest = put_quorum(rest, out, Word::RootKeys)?;
     let rest = put_quorum(rest, out, Word::ClockKeys)?;
     let rest = put_quorum(rest, out, Word::IndexKeys)?;
@@ -45,9 +45,9 @@ fn put_clock<'a>(text: &'a [u8], out: &mut Vec<u8>) -> Result<&'a [u8], Stop>
     let (last_day, rest) = number_line(rest, Word::LastDay, 0, 4294967295)?;
     let (index, rest) = number_line(rest, Word::Index, 1, 4294967295)?;
     let (digest, rest) = bytes_line(rest, Word::Digest)?;
-    write_u32(out, number as u32)?;
-    write_u32(out, last_day as u32)?;
-    write_u32(out, index as u32)?;
+    write_number(out, number as u32)?;
+    write_number(out, last_day as u32)?;
+    write_number(out, index as u32)?;
     out.extend_from_slice(&digest)?;
     Ok(rest)
 }
@@ -59,22 +59,22 @@ fn put_paper<'a>(text: &'a [u8], out: &mut Vec<u8>) -> Result<&'a [u8], Stop>
     let (kind, rest) = kind_line(text)?;
     match kind {
         Kind::Root => {
-            write_u8(out, 1)?;
+            write_number(out, 1u8)?;
             let rest = put_root(rest, out)?;
             Ok(rest)
         }
         Kind::Clock => {
-            write_u8(out, 2)?;
+            write_number(out, 2u8)?;
             let rest = put_clock(rest, out)?;
             Ok(rest)
         }
         Kind::Index => {
-            write_u8(out, 3)?;
+            write_number(out, 3u8)?;
             let rest = put_index(rest, out)?;
             Ok(rest)
         }
         Kind::List => {
-            write_u8(out, 4)?;
+            write_number(out, 4u8)?;
             let rest = put_list(rest, out)?;
             Ok(rest)
         }
@@ -100,18 +100,13 @@ fn line_at(text: &[u8], left: usize) -> u64
     ensures { result ≡ line_at text.now left }
 {
     let before = &text[..text.len().saturating_sub(left)];
-    let mut line = 1;
-    for byte in before {
-        if *byte == b'\n' {
-            line += 1;
-        }
-    }
-    line
+    before.iter().filter(|byte| **byte == b'\n').count() as u64 + 1
 }
 
 /// The bytes of the paper whose text this is, or the first bad line.
 pub fn bytes_of(heap: Global, text: &[u8]) -> Result<Vec<u8>, TextError>
-    ensures { Answers vec_items result text.now }
+    ensures answers { Answers vec_items result text.now }
+    ensures faithful { IfOk result (λ v. Faithful text.now v.items) }
 {
     let mut out = Vec::new(heap);
     match put_whole(text, &mut out) {

@@ -1,6 +1,6 @@
 -- An error of a part is an error of the whole. Assumes nothing.
 use Rattle.std.proofs.Common.{◌≡◌, ℕ, List, IsErrAnd, Ok, Err, Result, sym, refl, subst, Bor}
-use Rattle.formats.specs.Formats.{FormatOf}
+use Rattle.wire.specs.Formats.{FormatOf}
 use Rattle.line.specs.declared.expected.Bad.{Bad}
 use Rattle.draft_parts.specs.Copies.{Copies, CopiesKey}
 use Rattle.draft_parts.specs.declared.stop.Stop.{Stop}

@@ -1,7 +1,7 @@
 -- From text to bytes, part by part. Assumes nothing.
 use Rattle.std.specs.Prelude.{◌≡◌, ℕ, List, ◌++◌, Ok, Err, Result}
 use Rattle.std.specs.Borrow.{Bor}
-use Rattle.formats.specs.Formats.{FormatOf}
+use Rattle.wire.specs.Formats.{FormatOf}
 use Rattle.line.specs.declared.expected.Bad.{Bad}
 use Rattle.draft_parts.specs.declared.stop.Stop.{Stop}
 use Rattle.draft_parts.specs.declared.stop.Stop.TheVariants as stop

@@ -2,6 +2,6 @@
 #![tactic(auto)]
 
 pub mod index;
-pub mod put;
 pub mod quorum;
 pub mod stop;
+pub mod table;

@@ -1,7 +1,11 @@
 -- Places in the table of quorums. Assumes nothing.
-use Rattle.std.proofs.Common.{◌≡◌, ℕ, suc, ◌+◌, ◌-◌, ◌<◌, ◌≤◌, Bool, true, false, cond, not, ◌&&◌, ◌||◌, T, eqb, ltb, leb, List, [], ◌∷◌, ◌++◌, map, length, get_or, drop, vec_items, sym, refl, ap, ◌∙◌, subst, true≢false, arith}
-use Rattle.std.proofs.lemmas.List.{at_drop_more, at_drop_all, length-append, get_or_append_left}
-use Rattle.std.proofs.lemmas.Bool.{eqb-true, ltb-true, leb-true, leb-false, eq-eqb, ne_eqb, le-leb, lt-leb, lt-ltb, and_parts, and_from}
+use Rattle.std.proofs.Common.{◌≡◌, ℕ, suc, take, filter, Some, None, Option, unwrap_or, ◌+◌, ◌-◌, ◌<◌, ◌≤◌, Bool, true, false, cond, not, ◌&&◌, ◌||◌, T, eqb, ltb, leb, List, [], ◌∷◌, ◌++◌, map, length, get_or, vec_items, sym, refl, ap, ◌∙◌, subst, true≢false, arith}
+use Rattle.std.proofs.lemmas.List.{length-take-le, take_all, length-append, get_or_append_left}
+use Rattle.std.specs.Cmp.Lexicographic.{pointwise}
+use Rattle.std.specs.List.{list_any, position_or_len}
+use Rattle.std.specs.Prelude.{nat_eq}
+use Rattle.wire.proofs.Comparing.{bytes_same}
+use Rattle.std.proofs.lemmas.Bool.{ltb-false, eqb-true, ltb-true, leb-true, leb-false, eq-eqb, ne_eqb, le-leb, lt-leb, lt-ltb, and_parts, and_from}
 use Rattle.model.specs.Lists.{all, any, count}
 use Rattle.model.specs.Metadata.{Quorum}
 use Rattle.model.specs.Same.{same_list, same_quorums}
@@ -87,33 +91,50 @@ first-le q (r ∷ rs) = at (same_quorums q (row_of r)) (first-le q rs)
     at true h = omega arith
     at false h = omega (arith, h)
 
--- a search for a place: one row more, found, and none left
-module _ (q : Quorum) (rs : List Row) (whole : ℕ) (i : ℕ) (inv : i + first_at q (rows_of (drop i rs)) ≡ whole) where
-  pub place-more : (r : Row) → i < length rs → r ≡ get_or rs i r → same_quorums q (row_of r) ≡ false → (i + 1) + first_at q (rows_of (drop (i + 1) rs)) ≡ whole
-  place-more r lt e h =
-      let one : i + first_at q (rows_of (r ∷ drop (i + 1) rs)) ≡ whole = sym (at_drop_more (λ (l : List Row). i + first_at q (rows_of l)) rs i r lt ∙ ap (λ (x : Row). i + first_at q (rows_of (x ∷ drop (i + 1) rs))) (sym e)) ∙ inv in
-      let two : i + suc (first_at q (rows_of (drop (i + 1) rs))) ≡ whole = sym (ap (λ (b : Bool). i + cond b 0 (suc (first_at q (rows_of (drop (i + 1) rs))))) h) ∙ one in
-      omega (arith, two)
+-- SEARCHING AND COUNTING
 
-  pub place_found : (r : Row) → i < length rs → r ≡ get_or rs i r → same_quorums q (row_of r) ≡ true → i ≡ whole
-  place_found r lt e h =
-      let one : i + first_at q (rows_of (r ∷ drop (i + 1) rs)) ≡ whole = sym (at_drop_more (λ (l : List Row). i + first_at q (rows_of l)) rs i r lt ∙ ap (λ (x : Row). i + first_at q (rows_of (x ∷ drop (i + 1) rs))) (sym e)) ∙ inv in
-      let two : i + 0 ≡ whole = sym (ap (λ (b : Bool). i + cond b 0 (suc (first_at q (rows_of (drop (i + 1) rs))))) h) ∙ one in
-      omega (arith, two)
+pub bytes_equal : (a b : List ℕ) (r : Bool) → r ≡ pointwise nat_eq a b → r ≡ same_list a b
+bytes_equal = bytes_same
 
-  pub place_none : length rs ≤ i → whole ≡ first_at q (rows_of rs) → length rs ≡ whole
-  place_none le is =
-      let one : i + 0 ≡ whole = sym (at_drop_all (λ (l : List Row). i + first_at q (rows_of l)) rs i le) ∙ inv in
-      let two = first-le q rs in
-      omega (arith, one, two, is, le)
-
--- at most none is none
-pub none-wanted : (w : ℕ) → eqb w 0 ≡ leb w 0
-none-wanted w = at (leb w 0) refl
+-- the library's search for a quorum in the rows gives the place in the table
+place-position : (q : Quorum) (rs : List Row) → position_or_len (λ (r : Row). same_quorums q (row_of r)) rs ≡ first_at q (rows_of rs)
+place-position q [] = refl
+place-position q (r ∷ rs) = at (same_quorums q (row_of r)) (place-position q rs)
   where
-    at : (b : Bool) → leb w 0 ≡ b → eqb w 0 ≡ leb w 0
-    at true e = eq-eqb w 0 (let k = leb-true w 0 e in omega (arith, k)) ∙ sym e
-    at false e = ne_eqb w 0 (λ h. let k = leb-false w 0 e in omega (arith, h, k)) ∙ sym e
+    at : (b : Bool) → position_or_len (λ (x : Row). same_quorums q (row_of x)) rs ≡ first_at q (rows_of rs) → cond (not b) (1 + position_or_len (λ (x : Row). same_quorums q (row_of x)) rs) 0 ≡ cond b 0 (suc (first_at q (rows_of rs)))
+    at true e = refl
+    at false e = omega (arith, e)
+
+pub place-or-end : (q : Quorum) (rs : List Row) (o : Option ℕ) →
+    o ≡ cond (ltb (position_or_len (λ (r : Row). same_quorums q (row_of r)) rs) (length rs)) (Some (position_or_len (λ (r : Row). same_quorums q (row_of r)) rs)) None →
+    unwrap_or o (length rs) ≡ first_at q (rows_of rs)
+place-or-end q rs o h =
+    ap (λ (x : Option ℕ). unwrap_or x (length rs)) (h ∙ ap (λ (n : ℕ). cond (ltb n (length rs)) (Some n) None) (place-position q rs)) ∙ at (ltb (first_at q (rows_of rs)) (length rs)) refl
+  where
+    at : (b : Bool) → ltb (first_at q (rows_of rs)) (length rs) ≡ b → unwrap_or (cond b (Some (first_at q (rows_of rs))) None) (length rs) ≡ first_at q (rows_of rs)
+    at true e = refl
+    at false e = let most = first-le q rs in let least = ltb-false (first_at q (rows_of rs)) (length rs) e in omega (arith, most, least)
+
+-- as many as wanted can be taken exactly if there are as many
+pub taken_many : {A : Type 0} (m : ℕ) (xs : List A) → eqb (length (take m xs)) m ≡ leb m (length xs)
+taken_many m xs = at (leb m (length xs)) refl
+  where
+    at : (b : Bool) → leb m (length xs) ≡ b → eqb (length (take m xs)) m ≡ leb m (length xs)
+    at true e = eq-eqb (length (take m xs)) m (length-take-le m xs (leb-true m (length xs) e)) ∙ sym e
+    at false e =
+        ne_eqb (length (take m xs)) m (λ h. let few = leb-false m (length xs) e in let all-of = ap length (take_all m xs (omega (arith, few))) in omega (arith, few, all-of, h)) ∙ sym e
+
+pub filtered : {A : Type 0} (test : A → Bool) (xs : List A) → length (filter test xs) ≡ count test xs
+filtered test [] = refl
+filtered test (x ∷ xs) = at (test x) ∙ ap (λ (n : ℕ). cond (test x) 1 0 + n) (filtered test xs)
+  where
+    at : (b : Bool) → length (cond b (x ∷ filter test xs) (filter test xs)) ≡ cond b 1 0 + length (filter test xs)
+    at true = omega arith
+    at false = omega arith
+
+pub any-is : {A : Type 0} (test : A → Bool) (xs : List A) → list_any test xs ≡ any test xs
+any-is test [] = refl
+any-is test (x ∷ xs) = ap (λ (b : Bool). test x || b) (any-is test xs)
 
 -- THE LIMITS
 

@@ -1,7 +1,6 @@
 //! The journal: each paper that was taken, with the quorum that was asked for, the signatures that were counted, and the day.
 #![tactic(auto)]
 
-mod bytes;
 mod entry;
 pub mod journal;
 pub mod notes;

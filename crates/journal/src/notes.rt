@@ -9,12 +9,12 @@ ghost use Rattle.journal.specs.Prepared.{Placed, Copied};
 ghost use Rattle.journal.specs.Table.{first_at, rows_of};
 ghost use Rattle.journal.specs.Views.{notes_of, note_for};
 
-use crate::bytes::{mark_of, same_paper};
 use crate::entry::Entry;
 use crate::journal::Journal;
 use crate::row::Row;
 use signature::part::Signature;
 use std::alloc::{AllocError, Global};
+use wire::number::read_number;
 use wire::quorum::{Quorum, same_quorum};
 
 /// The most papers in all, and under one quorum.
@@ -29,6 +29,13 @@ pub struct Backing<'q, 's> {
     pub signatures: &'s [Signature],
 }
 
+/// A paper, and the day on which it was taken.
+#[derive(Clone, Copy)]
+pub struct Taken<'p> {
+    pub day: u64,
+    pub paper: &'p [u8],
+}
+
 /// How many of a root's two entries come under one of its quorums.
 fn of_two(quorum: Quorum<'_>, other: Quorum<'_>) -> usize
     ensures { (result ≡ of_two (quorum_of quorum.entry) (quorum_of other.entry)) × (result ≤ 2) }
@@ -36,7 +43,15 @@ fn of_two(quorum: Quorum<'_>, other: Quorum<'_>) -> usize
     if same_quorum(quorum, other) { 2 } else { 1 }
 }
 
+/// The first bytes of a paper, its kind and number among them: most papers differ there already.
+fn mark_of(paper: &[u8]) -> u64
+    ensures { result ≡ mark_of paper.now }
+{
+    read_number(paper).map_or(0, |(mark, _)| mark)
+}
+
 impl Entry {
+    /// Day and paper stand apart here: the field `bytes` is shown of a slice that is a parameter.
     fn copy(
         heap: Global,
         at: usize,
@@ -59,16 +74,11 @@ impl Entry {
     }
 
     /// Whether it is this paper, under the quorum at this place.
+    #[tactic(auto, using(crate::proofs::Places::bytes_equal))]
     fn is(&self, at: usize, mark: u64, paper: &[u8]) -> bool
         ensures { mark ≡ mark_of paper.now → result ≡ (at == self.now.at && same_list paper.now self.now.paper.items) }
     {
-        if self.at != at {
-            return false;
-        }
-        if self.mark != mark {
-            return false;
-        }
-        same_paper(paper, &self.paper)
+        self.at == at && self.mark == mark && paper == self.paper.as_slice()
     }
 }
 
@@ -86,28 +96,18 @@ impl Journal {
     fn place_of(&self, quorum: Quorum<'_>) -> usize
         ensures { result ≡ first_at (quorum_of quorum.entry) (rows_of self.now.rows.items) }
     {
-        for (place, row) in self.rows.iter().enumerate() {
-            if same_quorum(quorum, row.quorum()) {
-                return place;
-            }
-        }
-        self.rows.len()
+        self.rows
+            .iter()
+            .position(|row| same_quorum(quorum, row.quorum()))
+            .unwrap_or(self.rows.len())
     }
 
     /// Whether at least so many entries name this place.
     fn has_many_at(&self, at: usize, many: usize) -> bool
         ensures { result ≡ nat_le many (count (λ e. nat_eq at e.at) self.now.entries.items) }
     {
-        let mut wanted = many;
-        for entry in &self.entries {
-            if wanted == 0 {
-                return true;
-            }
-            if entry.at == at {
-                wanted -= 1;
-            }
-        }
-        wanted == 0
+        let there = self.entries.iter().filter(|entry| entry.at == at);
+        there.take(many).count() == many
     }
 
     /// Whether a paper is there under the quorum at a place.
@@ -115,12 +115,7 @@ impl Journal {
         ensures { result ≡ any (λ e. (at == e.at) && same_list paper.now e.paper.items) self.now.entries.items }
     {
         let mark = mark_of(paper);
-        for entry in &self.entries {
-            if entry.is(at, mark, paper) {
-                return true;
-            }
-        }
-        false
+        self.entries.iter().any(|entry| entry.is(at, mark, paper))
     }
 
     /// Whether at least so many papers were taken under a quorum.
@@ -178,13 +173,12 @@ impl Journal {
         &mut self,
         heap: Global,
         backing: Backing<'_, '_>,
-        day: u64,
-        paper: &[u8],
+        taken: Taken<'_>,
     ) -> Result<(), AllocError>
-        ensures { MatchResult result (λ _. notes_of self.new ≡ notes_of self.old ++ (note_for backing.entry day paper.now ∷ [])) (λ _. notes_of self.new ≡ notes_of self.old) }
+        ensures { MatchResult result (λ _. notes_of self.new ≡ notes_of self.old ++ (note_for backing.entry taken.entry.day taken.entry.paper.now ∷ [])) (λ _. notes_of self.new ≡ notes_of self.old) }
     {
         let at = self.place_for(heap, backing.quorum)?;
-        let entry = Entry::copy(heap, at, day, paper, backing.signatures)?;
+        let entry = Entry::copy(heap, at, taken.day, taken.paper, backing.signatures)?;
         self.entries.push(entry)?;
         Ok(())
     }
@@ -194,15 +188,14 @@ impl Journal {
         &mut self,
         heap: Global,
         backing: Backing<'_, '_>,
-        day: u64,
-        paper: &[u8],
+        taken: Taken<'_>,
     ) -> Result<(), AllocError>
-        ensures { MatchResult result (λ _. notes_of self.new ≡ noted_in (note_for backing.entry day paper.now) (notes_of self.old)) (λ _. notes_of self.new ≡ notes_of self.old) }
+        ensures { MatchResult result (λ _. notes_of self.new ≡ noted_in (note_for backing.entry taken.entry.day taken.entry.paper.now) (notes_of self.old)) (λ _. notes_of self.new ≡ notes_of self.old) }
     {
-        if self.stands(backing.quorum, paper) {
+        if self.stands(backing.quorum, taken.paper) {
             return Ok(());
         }
-        self.append(heap, backing, day, paper)
+        self.append(heap, backing, taken)
     }
 
     /// A root was taken on a day: it stands there for the old quorum and for its own, or, for want of memory, for neither.
@@ -211,15 +204,14 @@ impl Journal {
         heap: Global,
         old: Backing<'_, '_>,
         own: Backing<'_, '_>,
-        day: u64,
-        paper: &[u8],
+        taken: Taken<'_>,
     ) -> Result<(), AllocError>
-        ensures { MatchResult result (λ _. notes_of self.new ≡ notes_of self.old ++ (note_for old.entry day paper.now ∷ note_for own.entry day paper.now ∷ [])) (λ _. notes_of self.new ≡ notes_of self.old) }
+        ensures { MatchResult result (λ _. notes_of self.new ≡ notes_of self.old ++ (note_for old.entry taken.entry.day taken.entry.paper.now ∷ note_for own.entry taken.entry.day taken.entry.paper.now ∷ [])) (λ _. notes_of self.new ≡ notes_of self.old) }
     {
         let place = self.place_for(heap, old.quorum)?;
         let other = self.place_for(heap, own.quorum)?;
-        let first = Entry::copy(heap, place, day, paper, old.signatures)?;
-        let second = Entry::copy(heap, other, day, paper, own.signatures)?;
+        let first = Entry::copy(heap, place, taken.day, taken.paper, old.signatures)?;
+        let second = Entry::copy(heap, other, taken.day, taken.paper, own.signatures)?;
         self.entries.reserve(2)?;
         self.entries.push_reserved(first);
         self.entries.push_reserved(second);

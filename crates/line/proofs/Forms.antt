@@ -6,8 +6,8 @@ use Rattle.std.proofs.ByRecursion.{All-append}
 use Rattle.model.specs.Same.{same_list}
 use Rattle.model.proofs.Same.{bytes}
 use Rattle.wire.specs.Formats.{Bytes}
-use Rattle.formats.specs.Formats.{FormatOf, Lawful, and_then}
-use Rattle.formats.proofs.Laws.{inv-then, inv-only}
+use Rattle.wire.specs.Formats.{FormatOf, Lawful, and_then}
+use Rattle.wire.proofs.Laws.{inv-then, inv-only}
 use Rattle.line.specs.Lines.{bare}
 use Rattle.line.specs.Forms.{bad_at, line_in, behind_line, judged, ruled, Unended, Begins}
 use Rattle.line.specs.declared.expected.Bad.{Bad}

@@ -1,8 +1,11 @@
 -- The laws of lines with numbers, bytes, steps, flags and kinds. Assumes nothing.
-use Rattle.std.proofs.Common.{◌≡◌, ℕ, ◌+◌, ◌*◌, ◌/◌, ◌%◌, ◌^◌, ◌<◌, ◌≤◌, Bool, true, false, cond, eqb, ltb, leb, List, [], ◌∷◌, ◌++◌, length, drop, Ok, Err, codes, decimal, sym, refl, ap, ◌∙◌, true≢false, append_assoc, arith}
+use Rattle.std.proofs.Common.{◌≡◌, ℕ, ◌+◌, ◌*◌, ◌/◌, ◌%◌, ◌^◌, ◌<◌, ◌≤◌, Bool, true, false, cond, eqb, ltb, leb, List, [], ◌∷◌, ◌++◌, length, drop, Some, None, Ok, Err, codes, decimal, sym, refl, ap, ◌∙◌, subst, true≢false, append_assoc, arith}
 use Rattle.std.specs.Str.Parse.{AllDigits, digits_value, digits_value_after}
 use Rattle.std.specs.Char.{digit_value}
-use Rattle.std.specs.List.{AllByRecursion}
+use Rattle.std.specs.Prelude.{nat_eq}
+use Rattle.std.specs.Cmp.Lexicographic.{pointwise}
+use Rattle.std.specs.List.{AllByRecursion, find}
+use Rattle.std.specs.Option.{is_some}
 use Rattle.std.proofs.lemmas.Fmt.{decimal_is_IsNumeral}
 use Rattle.std.proofs.lemmas.Str.Parse.{digit_from_value}
 use Rattle.std.proofs.ByRecursion.{All-append}
@@ -11,13 +14,15 @@ use Rattle.std.proofs.lemmas.Bool.{and_parts, and_from, leb-true, ltb-true, ne_e
 use Rattle.std.proofs.lemmas.Bool.Decides.{nat_tests}
 use Rattle.model.specs.Metadata.{Steps}
 use Rattle.model.specs.Same.{same_list}
-use Rattle.formats.specs.Formats.{Lawful}
+use Rattle.wire.specs.Formats.{Lawful}
 use Rattle.wire.specs.Leaves.{within}
+use Rattle.wire.proofs.Comparing.{bytes_same}
 use Rattle.line.specs.Lines.{bare, numbered, digit_of, hex_of, hexed, steps_from, stepped}
 use Rattle.line.specs.Words.{word_of, kind_word}
-use Rattle.line.specs.Forms.{read_number, line_of_number, all_below, digit_in, bytes_in, allowed_bytes, read_bytes, line_of_bytes, steps_after, steps_in, allowed_steps, read_steps, line_of_steps, flag_write, read_flag, line_of_flag, kind_in, read_kind, line_of_kind, Unended}
+use Rattle.line.specs.Forms.{read_number_or, number_or, line_of_number, all_below, digit_in, bytes_in, allowed_bytes, read_bytes, line_of_bytes, steps_after, steps_in, allowed_steps, read_steps, line_of_steps, flag_write, read_flag, line_of_flag, kind_in, read_kind, line_of_kind, Unended}
 use Rattle.line.specs.declared.expected.Word.{Word}
 use Rattle.line.specs.declared.expected.Word.TheVariants as word
+use Rattle.line.specs.declared.expected.Expected.{Expected}
 use Rattle.line.specs.declared.expected.Expected.TheVariants as expected
 use Rattle.line.specs.declared.kind.Kind.{Kind}
 use Rattle.line.specs.declared.kind.Kind.TheVariants as kind
@@ -102,31 +107,34 @@ number-content w low high small n h =
       again = ap (digits_value 10) (behind-space (word_of w) 32 (decimal n)) ∙ (decimal_is_IsNumeral n fits).1;
     }
 
-pub lawful-number-line : (w : Word) (low high : ℕ) → high < 2 ^ 64 → Lawful (line_of_number w low high)
-unfolding read_number
-lawful-number-line w low high small = record {
-  back = line-back (numbered (word_of w)) (λ l. digits_value 10 (drop (length (word_of w) + 1) l)) (within low high) (expected.Number w low high) (number-content w low high small);
-  once = line-once (numbered (word_of w)) (λ l. digits_value 10 (drop (length (word_of w) + 1) l)) (within low high) (expected.Number w low high);
+pub lawful-number-or : (e : Expected) (w : Word) (low high : ℕ) → high < 2 ^ 64 → Lawful (number_or e w low high)
+unfolding read_number_or
+lawful-number-or e w low high small = record {
+  back = line-back (numbered (word_of w)) (λ l. digits_value 10 (drop (length (word_of w) + 1) l)) (within low high) e (number-content w low high small);
+  once = line-once (numbered (word_of w)) (λ l. digits_value 10 (drop (length (word_of w) + 1) l)) (within low high) e;
 }
 
+pub lawful-number-line : (w : Word) (low high : ℕ) → high < 2 ^ 64 → Lawful (line_of_number w low high)
+lawful-number-line w low high = lawful-number-or (expected.Number w low high) w low high
+
 -- what the reader of such a line has to find
-module _ (w : Word) (low high : ℕ) (small : high < 2 ^ 64) (text : List ℕ) where
+module _ (e : Expected) (w : Word) (low high : ℕ) (small : high < 2 ^ 64) (text : List ℕ) where
   number-tailed : Tailed (numbered (word_of w)) (λ n. 32 ∷ decimal n) (word_of w) (within low high)
   unfolding numbered
   number-tailed = record { is = λ n. refl; one = λ n h. (refl, unended-decimal n (omega (arith, (from-within low high n h).1, small))) }
 
-  pub no-number-word : ((v rest : List ℕ) → Unended v → text ≡ bare (word_of w ++ v) ++ rest → ⊥) → (line_of_number w low high).read text ≡ Err (bad_at text (expected.Number w low high))
-  unfolding read_number
-  no-number-word = word-bad (numbered (word_of w)) (λ l. digits_value 10 (drop (length (word_of w) + 1) l)) (within low high) (expected.Number w low high) (λ n. 32 ∷ decimal n) (word_of w) (unended-word w) number-tailed text
+  pub no-number-word : ((v rest : List ℕ) → Unended v → text ≡ bare (word_of w ++ v) ++ rest → ⊥) → (number_or e w low high).read text ≡ Err (bad_at text e)
+  unfolding read_number_or
+  no-number-word = word-bad (numbered (word_of w)) (λ l. digits_value 10 (drop (length (word_of w) + 1) l)) (within low high) e (λ n. 32 ∷ decimal n) (word_of w) (unended-word w) number-tailed text
 
   module _ (v rest : List ℕ) (b : Begins (word_of w) text v rest) where
-    pub no_number : ((n : ℕ) → within low high n ≡ true → v ≡ 32 ∷ decimal n → ⊥) → (line_of_number w low high).read text ≡ Err (bad_at text (expected.Number w low high))
-    unfolding read_number
-    no_number = tail-bad (numbered (word_of w)) (λ l. digits_value 10 (drop (length (word_of w) + 1) l)) (within low high) (expected.Number w low high) (λ n. 32 ∷ decimal n) (word_of w) (unended-word w) number-tailed text v rest b
+    pub no_number : ((n : ℕ) → within low high n ≡ true → v ≡ 32 ∷ decimal n → ⊥) → (number_or e w low high).read text ≡ Err (bad_at text e)
+    unfolding read_number_or
+    no_number = tail-bad (numbered (word_of w)) (λ l. digits_value 10 (drop (length (word_of w) + 1) l)) (within low high) e (λ n. 32 ∷ decimal n) (word_of w) (unended-word w) number-tailed text v rest b
 
-    pub one_number : (n : ℕ) → within low high n ≡ true → v ≡ 32 ∷ decimal n → (line_of_number w low high).read text ≡ Ok (n, rest)
-    unfolding read_number
-    one_number = tail-good (numbered (word_of w)) (λ l. digits_value 10 (drop (length (word_of w) + 1) l)) (within low high) (expected.Number w low high) (λ n. 32 ∷ decimal n) (word_of w) (unended-word w) number-tailed text v rest b (number-content w low high small)
+    pub one_number : (n : ℕ) → within low high n ≡ true → v ≡ 32 ∷ decimal n → (number_or e w low high).read text ≡ Ok (n, rest)
+    unfolding read_number_or
+    one_number = tail-good (numbered (word_of w)) (λ l. digits_value 10 (drop (length (word_of w) + 1) l)) (within low high) e (λ n. 32 ∷ decimal n) (word_of w) (unended-word w) number-tailed text v rest b (number-content w low high small)
 
 -- BYTES
 
@@ -301,17 +309,52 @@ module _ (text : List ℕ) where
   no-kind-line = word-bad (λ (k : Kind). bare (kind_word k)) kind_in (λ _. true) expected.Kind kind_word [] tt kind-tailed text
 
   module _ (v rest : List ℕ) (b : Begins [] text v rest) where
-    pub no_kind : same_list v (codes "root") ≡ false → same_list v (codes "clock") ≡ false → same_list v (codes "index") ≡ false → same_list v (codes "list") ≡ false → line_of_kind.read text ≡ Err (bad_at text expected.Kind)
+    pub no_kind : ((k : Kind) → same_list v (kind_word k) ≡ false) → line_of_kind.read text ≡ Err (bad_at text expected.Kind)
     unfolding read_kind
-    no_kind p q r s =
+    no_kind none =
         tail-bad (λ (k : Kind). bare (kind_word k)) kind_in (λ _. true) expected.Kind kind_word [] tt kind-tailed text v rest b (λ k _ e. true≢false (sym (same-list v (kind_word k) e) ∙ none k))
-      where
-        none : (k : Kind) → same_list v (kind_word k) ≡ false
-        none kind.Root = p
-        none kind.Clock = q
-        none kind.Index = r
-        none kind.List = s
 
     pub one-kind : (k : Kind) → same_list v (kind_word k) ≡ true → line_of_kind.read text ≡ Ok (k, rest)
     unfolding read_kind
     one-kind k e = tail-good (λ (j : Kind). bare (kind_word j)) kind_in (λ _. true) expected.Kind kind_word [] tt kind-tailed text v rest b (λ j _. kind-content j) k refl (list_same v (kind_word k) e)
+
+-- THE KIND WITH A WORD
+
+abbrev has_word : List ℕ → Kind → Bool
+has_word v k = pointwise nat_eq (kind_word k) v
+
+abbrev every : List Kind
+every = kind.Root ∷ kind.Clock ∷ kind.Index ∷ kind.List ∷ []
+
+find-passes : {X : Type 0} (p : X → Bool) (xs : List X) (x : X) → find p xs ≡ Some x → p x ≡ true
+find-passes p [] x e = absurd (true≢false (sym (ap is_some e)))
+find-passes p (y ∷ ys) x e = at (p y) refl e (find-passes p ys x)
+  where
+    at : (t : Bool) → p y ≡ t → cond t (Some y) (find p ys) ≡ Some x → (find p ys ≡ Some x → p x ≡ true) → p x ≡ true
+    at true h e k = let same : y ≡ x = cc in subst (λ z. p z ≡ true) same h
+    at false h e k = k e
+
+find-fails : {X : Type 0} (p : X → Bool) (xs : List X) → find p xs ≡ None → AllByRecursion (λ x. p x ≡ false) xs
+find-fails p [] e = tt
+find-fails p (y ∷ ys) e = at (p y) refl e (find-fails p ys)
+  where
+    at : (t : Bool) → p y ≡ t → cond t (Some y) (find p ys) ≡ None → (find p ys ≡ None → AllByRecursion (λ x. p x ≡ false) ys) → (p y ≡ false) × AllByRecursion (λ x. p x ≡ false) ys
+    at true h e k = absurd (true≢false (ap is_some e))
+    at false h e k = (h, k e)
+
+module _ (v : List ℕ) where
+  pub named-is : (k : Kind) → find (has_word v) every ≡ Some k → same_list v (kind_word k) ≡ true
+  named-is k e = same-list v (kind_word k) (sym (list_same (kind_word k) v (sym (bytes_same (kind_word k) v true (sym (find-passes (has_word v) every k e))))))
+
+  other : (w : List ℕ) → pointwise nat_eq w v ≡ false → same_list v w ≡ false
+  other w h = at (same_list v w) refl
+    where
+      at : (t : Bool) → same_list v w ≡ t → same_list v w ≡ false
+      at true e = absurd (true≢false (sym (same-list w v (sym (list_same v w e))) ∙ sym (bytes_same w v false (sym h))))
+      at false e = e
+
+  pub named-none : find (has_word v) every ≡ None → (k : Kind) → same_list v (kind_word k) ≡ false
+  named-none e kind.Root = other (codes "root") (find-fails (has_word v) every e).0
+  named-none e kind.Clock = other (codes "clock") (find-fails (has_word v) every e).1.0
+  named-none e kind.Index = other (codes "index") (find-fails (has_word v) every e).1.1.0
+  named-none e kind.List = other (codes "list") (find-fails (has_word v) every e).1.1.1.0

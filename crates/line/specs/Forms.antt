@@ -5,7 +5,7 @@ use Rattle.std.specs.Char.{digit_value}
 use Rattle.std.specs.List.{AllByRecursion}
 use Rattle.model.specs.Metadata.{Key, Steps}
 use Rattle.model.specs.Same.{same_list}
-use Rattle.formats.specs.Formats.{FormatOf, and_then}
+use Rattle.wire.specs.Formats.{FormatOf, and_then}
 use Rattle.wire.specs.Leaves.{within}
 use Rattle.line.specs.Lines.{bare, numbered, hexed, stepped}
 use Rattle.line.specs.Words.{word_of, kind_word}
@@ -33,13 +33,17 @@ behind_line (b ∷ bs) = cond (b == 10) bs (behind_line bs)
 abbrev pub judged : {A : Type 0} → (A → List ℕ) → (A → Bool) → Expected → List ℕ → A → Result (A × List ℕ) Bad
 judged write allowed e bs x = cond (allowed x && same_list (write x ++ behind_line bs) bs) (Ok (x, behind_line bs)) (Err (bad_at bs e))
 
--- a word and a number from low to high
-unfoldable pub read_number : Word → ℕ → ℕ → List ℕ → Result (ℕ × List ℕ) Bad
-read_number word low high bs =
-    judged (numbered (word_of word)) (within low high) (expected.Number word low high) bs (digits_value 10 (drop (length (word_of word) + 1) (line_in bs)))
+-- a word and a number from low to high; e: what is expected of such a line
+unfoldable pub read_number_or : Expected → Word → ℕ → ℕ → List ℕ → Result (ℕ × List ℕ) Bad
+read_number_or e word low high bs =
+    judged (numbered (word_of word)) (within low high) e bs (digits_value 10 (drop (length (word_of word) + 1) (line_in bs)))
 
+abbrev pub number_or : Expected → Word → ℕ → ℕ → FormatOf Bad ℕ
+number_or e word low high = record { read = read_number_or e word low high; write = numbered (word_of word); Wf = λ n. within low high n ≡ true }
+
+-- a word and a number from low to high, as is expected
 abbrev pub line_of_number : Word → ℕ → ℕ → FormatOf Bad ℕ
-line_of_number word low high = record { read = read_number word low high; write = numbered (word_of word); Wf = λ n. within low high n ≡ true }
+line_of_number word low high = number_or (expected.Number word low high) word low high
 
 abbrev pub all_below : ℕ → List ℕ → Bool
 all_below m [] = true

@@ -1,5 +1,5 @@
 //! What should have stood on a line.
-ghost use Rattle.std.specs.Prelude.{◌≡◌};
+ghost use Rattle.std.specs.Prelude.{◌≡◌, Some};
 ghost use Rattle.line.specs.Words.{word_of};
 
 use std::fmt;
@@ -59,6 +59,15 @@ impl Word {
     }
 }
 
+/// As users read it.
+impl fmt::Display for Word {
+    ghost output = { λ w. Some (word_of w) };
+
+    fn fmt<W: fmt::Write>(&self, f: &mut fmt::Formatter<W>) -> fmt::Result {
+        f.write_str(self.word())
+    }
+}
+
 /// What should have stood on a line.
 #[derive(Clone, Copy)]
 pub enum Expected {
@@ -77,25 +86,15 @@ impl fmt::Display for Expected {
         match self {
             Expected::Kind => f.write_str("root, clock, index or list"),
             Expected::Number(word, low, high) => {
-                let word = word.word();
                 write!(f, "{word} and a number from {low} to {high}")
             }
-            Expected::Bytes(word) => {
-                let word = word.word();
-                write!(f, "{word} and 64 hexadecimal digits")
-            }
-            Expected::Steps(word, low) => {
-                let word = word.word();
-                write!(
-                    f,
-                    "{word} and {low} to 8 steps from 0 to 65535, a slash between them"
-                )
-            }
+            Expected::Bytes(word) => write!(f, "{word} and 64 hexadecimal digits"),
+            Expected::Steps(word, low) => write!(
+                f,
+                "{word} and {low} to 8 steps from 0 to 65535, a slash between them"
+            ),
             Expected::Flag => f.write_str("last yes or last no"),
-            Expected::Rising(word) => {
-                let word = word.word();
-                write!(f, "a {word} above the one before")
-            }
+            Expected::Rising(word) => write!(f, "a {word} above the one before"),
             Expected::End => f.write_str("the end of the text"),
         }
     }

@@ -3,7 +3,7 @@ ghost use Rattle.std.specs.Prelude.{◌≡◌, ◌<◌, ◌++◌, decimal, OnOk}
 ghost use Rattle.wire.specs.Leaves.{steps_of};
 ghost use Rattle.line.specs.Lines.{bare, numbered, hexed, stepped, hex_of, hex_of_byte, digit_of, steps_from};
 
-use std::alloc::{AllocError, Global};
+use std::alloc::AllocError;
 use wire::key::Bytes32;
 use wire::path::Step;
 
@@ -17,21 +17,21 @@ pub fn write_word(out: &mut Vec<u8>, word: &[u8]) -> Result<(), AllocError>
 }
 
 /// The decimal digits of a number.
-fn push_decimal(heap: Global, out: &mut Vec<u8>, n: u64) -> Result<(), AllocError>
+fn push_decimal(out: &mut Vec<u8>, n: u64) -> Result<(), AllocError>
     ensures { OnOk result (out.new.items ≡ out.old.items ++ decimal n) }
 {
-    let digits = format!(in heap; "{n}")?;
+    let digits = format!(in *out.allocator(); "{n}")?;
     out.extend_from_slice(digits.as_bytes())?;
     Ok(())
 }
 
 /// A word and a number.
-pub fn write_number(heap: Global, out: &mut Vec<u8>, word: &[u8], n: u64) -> Result<(), AllocError>
+pub fn write_number(out: &mut Vec<u8>, word: &[u8], n: u64) -> Result<(), AllocError>
     ensures { OnOk result (out.new.items ≡ out.old.items ++ numbered word.now n) }
 {
     out.extend_from_slice(word)?;
     out.push(b' ')?;
-    push_decimal(heap, out, n)?;
+    push_decimal(out, n)?;
     out.push(b'\n')?;
     Ok(())
 }
@@ -75,31 +75,24 @@ pub fn write_bytes(out: &mut Vec<u8>, word: &[u8], bytes: &Bytes32) -> Result<()
 }
 
 /// The steps of a path, a slash between them and a space before the first.
-fn push_steps(heap: Global, out: &mut Vec<u8>, steps: &[Step]) -> Result<(), AllocError>
+fn push_steps(out: &mut Vec<u8>, steps: &[Step]) -> Result<(), AllocError>
     ensures { OnOk result (out.new.items ≡ out.old.items ++ steps_from 32 (steps_of steps.now)) }
 {
-    let mut left = steps;
     let mut mark = b' ';
-    while let Some((step, rest)) = left.split_first() {
+    for step in steps {
         out.push(mark)?;
-        push_decimal(heap, out, u64::from(u16::from_be_bytes(*step)))?;
+        push_decimal(out, u64::from(u16::from_be_bytes(*step)))?;
         mark = b'/';
-        left = rest;
     }
     Ok(())
 }
 
 /// A word and the steps of a path.
-pub fn write_steps(
-    heap: Global,
-    out: &mut Vec<u8>,
-    word: &[u8],
-    steps: &[Step],
-) -> Result<(), AllocError>
+pub fn write_steps(out: &mut Vec<u8>, word: &[u8], steps: &[Step]) -> Result<(), AllocError>
     ensures { OnOk result (out.new.items ≡ out.old.items ++ stepped word.now (steps_of steps.now)) }
 {
     out.extend_from_slice(word)?;
-    push_steps(heap, out, steps)?;
+    push_steps(out, steps)?;
     out.push(b'\n')?;
     Ok(())
 }

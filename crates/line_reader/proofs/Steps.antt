@@ -1,12 +1,12 @@
 -- Steps between slashes, as a loop takes them apart. Assumes nothing.
-use Rattle.std.proofs.Common.{◌≡◌, ℕ, ◌+◌, ◌<◌, ◌≤◌, Bool, true, false, cond, eqb, List, [], ◌∷◌, ◌++◌, length, get_or, drop, decimal, sym, refl, ap, ◌∙◌, subst, append_assoc, append-nil, arith}
+use Rattle.std.proofs.Common.{◌≡◌, ℕ, ◌<◌, ◌≤◌, Bool, true, false, cond, eqb, List, [], ◌∷◌, ◌++◌, length, decimal, sym, refl, ap, ◌∙◌, subst, append_assoc, append-nil, arith}
 use Rattle.std.specs.Str.Parse.{AllDigits}
 use Rattle.std.specs.List.{AllByRecursion}
 use Rattle.std.proofs.lemmas.Fmt.{decimal_is_IsNumeral, decimal_injective}
 use Rattle.std.proofs.ByRecursion.{All-append}
-use Rattle.std.proofs.lemmas.List.{length-append, drop_more, nil_from_length}
+use Rattle.std.proofs.lemmas.List.{length-append, nil_from_length}
 use Rattle.std.proofs.lemmas.Str.Parse.{digit_from_value}
-use Rattle.std.proofs.lemmas.Bool.{ne_eqb, eq-eqb}
+use Rattle.std.proofs.lemmas.Bool.{ne_eqb}
 use Rattle.model.specs.Metadata.{Steps}
 use Rattle.line.specs.Lines.{steps_from}
 use Rattle.line_reader.specs.Paths.{step_text, behind_step, FewSteps}
@@ -110,20 +110,3 @@ module _ (value left : List ℕ) (mark : ℕ) (path : Steps) (w : Walk value lef
           (k.more, k.all ∙ (λ i. path ++ (same i ∷ k.more)) ∙ sym (append_assoc path (n ∷ []) k.more), k.behind);
       small = (omega (arith, room, length-append path (n ∷ [])), All-append (λ x. x < 65536) path (n ∷ []) w.small.1 (small, tt));
     })
-
--- a loop that looks for the slash
-pub step-later : (text : List ℕ) (i : ℕ) → i < length text → (get_or text i 0 ≡ 47 → ⊥) → (front : List ℕ) → step_text text ≡ front ++ step_text (drop i text) → step_text text ≡ (front ++ (get_or text i 0 ∷ [])) ++ step_text (drop (i + 1) text)
-step-later text i h n front e =
-    e ∙ ap (λ l. front ++ step_text l) (drop_more text i 0 h)
-    ∙ ap (λ t. front ++ cond t [] (get_or text i 0 ∷ step_text (drop (i + 1) text))) (ne_eqb (get_or text i 0) 47 n)
-    ∙ sym (append_assoc front (get_or text i 0 ∷ []) (step_text (drop (i + 1) text)))
-
-pub rest-later : (text : List ℕ) (i : ℕ) → i < length text → (get_or text i 0 ≡ 47 → ⊥) → behind_step text ≡ behind_step (drop i text) → behind_step text ≡ behind_step (drop (i + 1) text)
-rest-later text i h n e =
-    e ∙ ap behind_step (drop_more text i 0 h) ∙ ap (λ t. cond t (get_or text i 0 ∷ drop (i + 1) text) (behind_step (drop (i + 1) text))) (ne_eqb (get_or text i 0) 47 n)
-
-pub at-step : (text : List ℕ) (i : ℕ) → i < length text → get_or text i 0 ≡ 47 → (step_text (drop i text) ≡ []) × (behind_step (drop i text) ≡ drop i text)
-at-step text i h e = (
-  ap step_text (drop_more text i 0 h) ∙ ap (λ t. cond t [] (get_or text i 0 ∷ step_text (drop (i + 1) text))) (eq-eqb (get_or text i 0) 47 e),
-  ap behind_step (drop_more text i 0 h) ∙ ap (λ t. cond t (get_or text i 0 ∷ drop (i + 1) text) (behind_step (drop (i + 1) text))) (eq-eqb (get_or text i 0) 47 e) ∙ sym (drop_more text i 0 h),
-)

@@ -1,15 +1,17 @@
 -- Decimal and hexadecimal digits, as the code takes them apart. Assumes nothing.
-use Rattle.std.proofs.Common.{◌≡◌, ℕ, zero, suc, ◌+◌, ◌*◌, ◌/◌, ◌%◌, ◌^◌, ◌<◌, ◌≤◌, Bool, true, false, cond, not, eqb, List, [], ◌∷◌, ◌++◌, map, length, get_or, take, drop, set, IsUtf8, decimal, sym, refl, ap, ◌∙◌, subst, true≢false, arith}
-use Rattle.std.specs.Str.Parse.{AllDigits, digits_value, without_leading_plus}
+use Rattle.std.proofs.Common.{◌≡◌, ℕ, zero, suc, ◌+◌, ◌*◌, ◌/◌, ◌%◌, ◌^◌, ◌<◌, ◌≤◌, Bool, true, false, cond, not, eqb, List, [], ◌∷◌, ◌++◌, map, length, get_or, take, drop, set, IsUtf8, decimal, Ok, Err, Result, sym, refl, ap, ◌∙◌, subst, true≢false, arith}
+use Rattle.std.specs.Str.Parse.{AllDigits, ParsesUnsigned, digits_value, without_leading_plus}
 use Rattle.std.specs.Simd.{first_chunks}
 use Rattle.std.specs.List.{AllByRecursion}
-use Rattle.std.proofs.lemmas.Fmt.{decimal_is_IsNumeral, decimal_digit, decimal-digits_value, first_decimal, IsAscii-decimal}
+use Rattle.std.proofs.lemmas.Fmt.{decimal_is_IsNumeral, decimal_digit, decimal-digits_value, first_decimal, IsAscii-decimal, parse-decimal, decimal_injective}
 use Rattle.std.proofs.ByRecursion.{All-get_or}
 use Rattle.std.proofs.lemmas.List.{get_or-map, map_push, take_more, take_more_set}
 use Rattle.std.proofs.lemmas.Str.Parse.{numerals_by_value, tells_digits, digit_at}
 use Rattle.std.proofs.lemmas.Bool.{eqb-true, eq-eqb, ne_eqb}
 use Rattle.std.proofs.lemmas.Str.{IsUtf8-from_ascii}
-use Rattle.line_reader.specs.Finds.{well_begun}
+use Rattle.std.specs.Result.{OkIff, result_ok}
+use Rattle.wire.proofs.Laws.{not-ok}
+use Rattle.line_reader.specs.Finds.{Found, well_begun}
 use Rattle.line.specs.Lines.{digit_of, hex_of_byte, hex_of}
 
 -- DECIMAL
@@ -61,6 +63,15 @@ parsed-digits ds text first more n t h w r =
     let k = subst (λ (l : List ℕ). (((0 < length l) × AllDigits 10 l) × (digits_value 10 l < 2 ^ 64)) × (n ≡ digits_value 10 l)) same r in
     let first-is : get_or ds 0 0 ≡ first = ap (λ l. get_or l 0 0) h in
     (sym (ap decimal k.1 ∙ decimal-digits_value (numerals_by_value _ tells_digits) ds k.0.0.1 k.0.0.0 (λ l. alone (sym first-is ∙ l)) k.0.1), omega (arith, k.1, k.0.1))
+
+pub parsed : {E : Type 0} (ds text : List ℕ) (first : ℕ) (more : List ℕ) (r : Result ℕ E) → text ≡ ds → ds ≡ first ∷ more → well_begun first more ≡ true → ParsesUnsigned 64 10 text r → Found (λ n. n) decimal (λ n. n < 2 ^ 64) (result_ok r) ds
+parsed ds text first more (Ok n) t h w p = parsed-digits ds text first more n t h w p
+parsed ds text first more (Err e) t h w p = λ x small d. not-ok (parse-decimal 64 x text (Err e) small small (t ∙ d) p)
+
+-- a number that two bytes hold
+pub narrowed : {E : Type 0} (ds : List ℕ) (n : ℕ) (r : Result ℕ E) → ds ≡ decimal n → n < 2 ^ 64 → OkIff r (n < 2 ^ 16) n → Found (λ n. n) decimal (λ n. n < 65536) (result_ok r) ds
+narrowed ds n (Ok m) d l p = (d ∙ ap decimal (sym p.1), omega (arith, p.0, p.1))
+narrowed ds n (Err e) d l p = λ x small w. p (omega (arith, small, decimal_injective n x l (omega (arith, small)) (sym d ∙ w)))
 
 -- HEXADECIMAL
 

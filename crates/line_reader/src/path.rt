@@ -1,6 +1,6 @@
 //! Paths as they stand on lines.
 ghost use Rattle.std.specs.Prelude.{◌≡◌, ◌<◌, ◌≤◌, [], ◌∷◌, ◌++◌, length, decimal, MatchOption};
-ghost use Rattle.formats.specs.Formats.{Reads};
+ghost use Rattle.wire.specs.Formats.{Reads};
 ghost use Rattle.wire.specs.Leaves.{steps_of};
 ghost use Rattle.line.specs.Lines.{steps_from};
 ghost use Rattle.line_reader.specs.Finds.{Found};
@@ -8,11 +8,11 @@ ghost use Rattle.line.specs.Forms.{line_of_steps};
 ghost use Rattle.line_reader.specs.Paths.{path_of, step_text, behind_step, FewSteps};
 
 use crate::reader::behind;
-use crate::value::decimal_in;
+use crate::value::{decimal_in, find_byte};
 use line::expected::{Bad, Expected, Word};
 use wire::path::Step;
 
-/// Up to 8 steps.
+/// Up to 8 steps. A `Vec` could end memory, and then a line that is right would be refused; a type with a model cannot be `Copy`.
 #[derive(Clone, Copy)]
 pub struct Path {
     steps: [Step; 8],
@@ -58,25 +58,15 @@ fn split_step(text: &[u8]) -> (&[u8], &[u8])
     ensures digits { result.0.now ≡ step_text text.now }
     ensures rest { result.1.now ≡ behind_step text.now }
 {
-    for i in 0..text.len() {
-        if text[i] == b'/' {
-            return (&text[..i], &text[i..]);
-        }
-    }
-    (text, &text[text.len()..])
+    let end = find_byte(text, b'/').unwrap_or(text.len());
+    text.split_at(end)
 }
 
 /// A step: a number up to 65535.
 fn step_in(digits: &[u8]) -> Option<u16>
     ensures { Found (λ n. n) decimal (λ n. n < 65536) result digits.now }
 {
-    let Some(n) = decimal_in(digits) else {
-        return None;
-    };
-    if n > 65535 {
-        return None;
-    }
-    Some(n as u16)
+    u16::try_from(decimal_in(digits)?).ok()
 }
 
 /// Steps with a slash between them and a space before the first.
@@ -86,18 +76,13 @@ fn path_in(value: &[u8]) -> Option<Path>
     let mut path = Path::new();
     let mut left = value;
     let mut mark = b' ';
+    // A cursor: how far a step goes is known when it is read.
     while let Some((first, rest)) = left.split_first() {
         if *first != mark {
             return None;
         }
         let (digits, after) = split_step(rest);
-        let Some(step) = step_in(digits) else {
-            return None;
-        };
-        let Some(longer) = path.with(step) else {
-            return None;
-        };
-        path = longer;
+        path = path.with(step_in(digits)?)?;
         mark = b'/';
         left = after;
     }
@@ -112,13 +97,9 @@ pub fn steps_line(text: &[u8], word: Word, low: u8) -> Result<(Path, &[u8]), Bad
         left: text.len(),
         expected: Expected::Steps(word, low),
     };
-    let Some((value, rest)) = behind(text, word) else {
-        return Err(bad);
-    };
-    let Some(path) = path_in(value) else {
-        return Err(bad);
-    };
-    if path.steps().len() < low as usize {
+    let (value, rest) = behind(text, word).ok_or(bad)?;
+    let path = path_in(value).ok_or(bad)?;
+    if path.steps().len() < usize::from(low) {
         return Err(bad);
     }
     Ok((path, rest))

@@ -1,11 +1,11 @@
 //! Lines, read from the front of a text.
 ghost use Rattle.std.specs.Prelude.{◌≤◌, [], IfOk};
-ghost use Rattle.formats.specs.Formats.{Reads};
+ghost use Rattle.wire.specs.Formats.{Reads};
 ghost use Rattle.line_reader.specs.Finds.{Behind};
-ghost use Rattle.line.specs.Forms.{line_of_number, line_of_bytes, line_of_flag, line_of_kind};
+ghost use Rattle.line.specs.Forms.{number_or, line_of_number, line_of_bytes, line_of_flag, line_of_kind};
 ghost use Rattle.line.specs.Words.{word_of};
 
-use crate::value::{decimal_in, hex_bytes, same_text, spaced};
+use crate::value::{decimal_in, find_byte, hex_bytes, spaced};
 use line::expected::{Bad, Expected, Word};
 use line::kind::Kind;
 use wire::key::Bytes32;
@@ -14,25 +14,41 @@ use wire::key::Bytes32;
 fn split_line(text: &[u8]) -> Option<(&[u8], &[u8])>
     ensures { Behind [] result text.now }
 {
-    for i in 0..text.len() {
-        if text[i] == b'\n' {
-            return Some((&text[..i], &text[i + 1..]));
-        }
-    }
-    None
+    let end = find_byte(text, b'\n')?;
+    Some((&text[..end], &text[end + 1..]))
 }
 
 /// What stands behind a word on the first line, and the text behind the line.
 pub fn behind(text: &[u8], word: Word) -> Option<(&[u8], &[u8])>
     ensures { Behind (word_of word) result text.now }
 {
-    let Some((line, rest)) = split_line(text) else {
-        return None;
-    };
-    let Some(value) = line.strip_prefix(word.word().as_bytes()) else {
-        return None;
-    };
+    let (line, rest) = split_line(text)?;
+    let value = line.strip_prefix(word.word().as_bytes())?;
     Some((value, rest))
+}
+
+/// A word and a number in a range; else this was expected.
+pub fn number_or(
+    text: &[u8],
+    word: Word,
+    low: u64,
+    high: u64,
+    expected: Expected,
+) -> Result<(u64, &[u8]), Bad>
+    ensures read { Reads (λ n. n) result ((number_or expected word low high).read text.now) }
+    ensures range { IfOk result (λ p. (low ≤ p.0) × (p.0 ≤ high)) }
+{
+    let bad = Bad {
+        left: text.len(),
+        expected,
+    };
+    let (value, rest) = behind(text, word).ok_or(bad)?;
+    let digits = spaced(value).ok_or(bad)?;
+    let n = decimal_in(digits).ok_or(bad)?;
+    if n < low || n > high {
+        return Err(bad);
+    }
+    Ok((n, rest))
 }
 
 /// A word and a number in a range.
@@ -40,26 +56,7 @@ pub fn number_line(text: &[u8], word: Word, low: u64, high: u64) -> Result<(u64,
     ensures read { Reads (λ n. n) result ((line_of_number word low high).read text.now) }
     ensures range { IfOk result (λ p. (low ≤ p.0) × (p.0 ≤ high)) }
 {
-    let bad = Bad {
-        left: text.len(),
-        expected: Expected::Number(word, low, high),
-    };
-    let Some((value, rest)) = behind(text, word) else {
-        return Err(bad);
-    };
-    let Some(digits) = spaced(value) else {
-        return Err(bad);
-    };
-    let Some(n) = decimal_in(digits) else {
-        return Err(bad);
-    };
-    if n < low {
-        return Err(bad);
-    }
-    if n > high {
-        return Err(bad);
-    }
-    Ok((n, rest))
+    number_or(text, word, low, high, Expected::Number(word, low, high))
 }
 
 /// A word and 32 bytes.
@@ -70,15 +67,9 @@ pub fn bytes_line(text: &[u8], word: Word) -> Result<(Bytes32, &[u8]), Bad>
         left: text.len(),
         expected: Expected::Bytes(word),
     };
-    let Some((value, rest)) = behind(text, word) else {
-        return Err(bad);
-    };
-    let Some(digits) = spaced(value) else {
-        return Err(bad);
-    };
-    let Some(bytes) = hex_bytes(digits) else {
-        return Err(bad);
-    };
+    let (value, rest) = behind(text, word).ok_or(bad)?;
+    let digits = spaced(value).ok_or(bad)?;
+    let bytes = hex_bytes(digits).ok_or(bad)?;
     Ok((bytes, rest))
 }
 
@@ -90,13 +81,11 @@ pub fn flag_line(text: &[u8]) -> Result<(bool, &[u8]), Bad>
         left: text.len(),
         expected: Expected::Flag,
     };
-    let Some((line, rest)) = split_line(text) else {
-        return Err(bad);
-    };
-    if same_text(line, b"last yes") {
+    let (line, rest) = split_line(text).ok_or(bad)?;
+    if line == b"last yes".as_slice() {
         return Ok((true, rest));
     }
-    if same_text(line, b"last no") {
+    if line == b"last no".as_slice() {
         return Ok((false, rest));
     }
     Err(bad)
@@ -110,20 +99,7 @@ pub fn kind_line(text: &[u8]) -> Result<(Kind, &[u8]), Bad>
         left: text.len(),
         expected: Expected::Kind,
     };
-    let Some((line, rest)) = split_line(text) else {
-        return Err(bad);
-    };
-    if same_text(line, b"root") {
-        return Ok((Kind::Root, rest));
-    }
-    if same_text(line, b"clock") {
-        return Ok((Kind::Clock, rest));
-    }
-    if same_text(line, b"index") {
-        return Ok((Kind::Index, rest));
-    }
-    if same_text(line, b"list") {
-        return Ok((Kind::List, rest));
-    }
-    Err(bad)
+    let (line, rest) = split_line(text).ok_or(bad)?;
+    let kind = Kind::named(line).ok_or(bad)?;
+    Ok((kind, rest))
 }

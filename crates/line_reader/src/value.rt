@@ -1,29 +1,25 @@
 //! Values as they stand on lines.
-ghost use Rattle.std.specs.Prelude.{◌≡◌, ◌^◌, ◌<◌, true, [], ◌∷◌, length, decimal};
+ghost use Rattle.std.specs.List.{position};
+ghost use Rattle.std.specs.Prelude.{◌≡◌, ◌==◌, ◌^◌, ◌<◌, true, [], ◌∷◌, length, decimal};
 ghost use Rattle.line.specs.Lines.{digit_of, hex_of_byte, hex_of};
 ghost use Rattle.line_reader.specs.Finds.{Found, well_begun};
 ghost use Rattle.line.specs.Forms.{allowed_bytes};
-ghost use Rattle.model.specs.Same.{same_list};
 
 use std::str;
 use wire::key::Bytes32;
 
-/// Whether two texts are the same.
-pub fn same_text(a: &[u8], b: &[u8]) -> bool
-    ensures { result ≡ same_list a.now b.now }
+/// Where this byte first stands.
+pub(crate) fn find_byte(text: &[u8], byte: u8) -> Option<usize>
+    ensures { result ≡ position (λ b. b == byte) text.now }
 {
-    a == b
+    text.iter().position(|b| *b == byte)
 }
 
 /// What is behind a space.
 pub fn spaced(value: &[u8]) -> Option<&[u8]>
     ensures { Found (λ v. v.now) (λ v. 32 ∷ v) (λ _. Unit {0}) result value.now }
 {
-    let (first, rest) = value.split_first()?;
-    if *first != b' ' {
-        return None;
-    }
-    Some(rest)
+    value.strip_prefix(b" ")
 }
 
 /// Whether digits may begin so: with a zero only where it is all, and never with a plus.
@@ -40,19 +36,11 @@ fn begins_well(first: u8, more: &[u8]) -> bool
 pub fn decimal_in(digits: &[u8]) -> Option<u64>
     ensures { Found (λ n. n) decimal (λ n. n < 2 ^ 64) result digits.now }
 {
-    let Some((first, more)) = digits.split_first() else {
-        return None;
-    };
+    let (first, more) = digits.split_first()?;
     if !begins_well(*first, more) {
         return None;
     }
-    let Ok(text) = str::from_utf8(digits) else {
-        return None;
-    };
-    match text.parse::<u64>() {
-        Ok(n) => Some(n),
-        Err(_) => None,
-    }
+    str::from_utf8(digits).ok()?.parse().ok()
 }
 
 /// The number of a lower-case hexadecimal digit.
@@ -84,12 +72,10 @@ pub fn hex_bytes(digits: &[u8]) -> Option<Bytes32>
         return None;
     }
     let (pairs, _) = digits.as_chunks::<2>();
+    // The place is named: a zip with the bytes as `&mut` says no more, and its proof needs the place all the same.
     let mut bytes = [0; 32];
-    for i in 0..32 {
-        let Some(byte) = hex_byte(pairs[i]) else {
-            return None;
-        };
-        bytes[i] = byte;
+    for (i, pair) in pairs.iter().enumerate() {
+        bytes[i] = hex_byte(*pair)?;
     }
     Some(bytes)
 }

@@ -6,6 +6,7 @@ use Rattle.wire.specs.Leaves.{steps_of}
 use Rattle.wire.specs.Tables.{items}
 use Rattle.wire.specs.Views.{quorum_of}
 use Rattle.metadata.specs.Papers.{meta, file, delegation}
+use Rattle.wire.specs.declared.table.Table.{Table}
 use Rattle.metadata.specs.declared.root.Root.{Root}
 use Rattle.metadata.specs.declared.timestamp.Timestamp.{Timestamp}
 use Rattle.metadata.specs.declared.snapshot.Meta.{Meta}
@@ -15,7 +16,7 @@ use Rattle.metadata.specs.declared.targets.File.{File}
 use Rattle.metadata.specs.declared.targets.Files.{Files}
 use Rattle.metadata.specs.declared.targets.Delegation.{Delegation}
 use Rattle.metadata.specs.declared.targets.Delegations.{Delegations}
-use Rattle.metadata.specs.declared.targets.Targets.{Targets}
+use Rattle.metadata.specs.declared.contents.Targets.{Targets}
 use Rattle.metadata.specs.declared.paper.Metadata.{Metadata}
 use Rattle.metadata.specs.declared.paper.Metadata.TheVariants as kind
 
@@ -29,7 +30,7 @@ abbrev pub meta_of : Meta → model.Meta
 meta_of m = record { role = m.role; version = m.version }
 
 -- a table stands for the items that its bytes begin with, as many as it counts
-abbrev pub metas_of : Metas → List model.Meta
+abbrev pub metas_of : Table Metas → List model.Meta
 metas_of m = items meta m.count m.bytes.now
 
 abbrev pub snapshot_of : Snapshot → model.Snapshot
@@ -38,13 +39,13 @@ snapshot_of s = record { version = s.version; expires = s.expires; metas = metas
 abbrev pub file_of : File → model.File
 file_of f = record { path = steps_of f.path.now; size = f.size; digest = f.digest.now }
 
-abbrev pub files_of : Files → List model.File
+abbrev pub files_of : Table Files → List model.File
 files_of f = items file f.count f.bytes.now
 
 abbrev pub delegation_of : Delegation → model.Delegation
 delegation_of d = record { role = d.role; quorum = quorum_of d.quorum; prefix = steps_of d.prefix.now; terminating = d.terminating }
 
-abbrev pub delegations_of : Delegations → List model.Delegation
+abbrev pub delegations_of : Table Delegations → List model.Delegation
 delegations_of d = items delegation d.count d.bytes.now
 
 abbrev pub targets_of : Targets → model.Targets

@@ -10,7 +10,7 @@ use crate::snapshot::{Snapshot, read_snapshot};
 use crate::targets::{Targets, read_targets};
 use crate::timestamp::{Timestamp, read_timestamp};
 use model::fault::Fault;
-use wire::number::read_u8;
+use wire::number::read_number;
 
 /// A paper of one of the four kinds.
 #[derive(Clone, Copy)]
@@ -25,9 +25,8 @@ pub enum Metadata<'a> {
 pub fn read_metadata(bytes: &[u8]) -> Result<(Metadata<'_>, &[u8]), Fault>
     ensures { Reads metadata_of result (paper_f.read bytes.now) }
 {
-    let Some((kind, rest)) = read_u8(bytes) else {
-        return Err(Fault::Malformed);
-    };
+    // The kind is a number in the format, with a refusal for all others.
+    let (kind, rest) = read_number::<u8, 1>(bytes)?;
     match kind {
         1 => {
             let (root, rest) = read_root(rest)?;

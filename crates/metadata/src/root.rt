@@ -4,7 +4,7 @@ ghost use Rattle.metadata.specs.Papers.{root as root_f};
 ghost use Rattle.metadata.specs.Views.{root_of};
 
 use model::fault::Fault;
-use wire::number::{read_u32, read_version};
+use wire::number::{read_number, read_version};
 use wire::quorum::{Quorum, read_quorum};
 
 #[derive(Clone, Copy)]
@@ -22,9 +22,7 @@ pub fn read_root(bytes: &[u8]) -> Result<(Root<'_>, &[u8]), Fault>
     ensures { Reads root_of result (root_f.read bytes.now) }
 {
     let (version, rest) = read_version(bytes)?;
-    let Some((expires, rest)) = read_u32(rest) else {
-        return Err(Fault::Malformed);
-    };
+    let (expires, rest) = read_number(rest)?;
     let (root, rest) = read_quorum(rest)?;
     let (timestamp, rest) = read_quorum(rest)?;
     let (snapshot, rest) = read_quorum(rest)?;

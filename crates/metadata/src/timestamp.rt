@@ -5,7 +5,7 @@ ghost use Rattle.metadata.specs.Views.{timestamp_of};
 
 use model::fault::Fault;
 use wire::key::Bytes32;
-use wire::number::{read_block, read_u32, read_version};
+use wire::number::{read_block, read_number, read_version};
 
 #[derive(Clone, Copy)]
 pub struct Timestamp<'a> {
@@ -20,13 +20,9 @@ pub fn read_timestamp(bytes: &[u8]) -> Result<(Timestamp<'_>, &[u8]), Fault>
     ensures { Reads timestamp_of result (timestamp_f.read bytes.now) }
 {
     let (version, rest) = read_version(bytes)?;
-    let Some((expires, rest)) = read_u32(rest) else {
-        return Err(Fault::Malformed);
-    };
+    let (expires, rest) = read_number(rest)?;
     let (snapshot, rest) = read_version(rest)?;
-    let Some((digest, rest)) = read_block::<32>(rest) else {
-        return Err(Fault::Malformed);
-    };
+    let (digest, rest) = read_block(rest)?;
     let read = Timestamp {
         version,
         expires,

@@ -5,6 +5,7 @@ pub mod Same
 pub mod Quorums
 pub mod Journal
 pub mod Device
+pub mod Answers
 pub mod Taking
 pub mod Look
 pub mod Run

@@ -1,6 +1,9 @@
 //! Why something is refused.
-ghost use Rattle.std.specs.Prelude.{◌≡◌};
+ghost use Rattle.std.specs.Prelude.{◌≡◌, Some};
+ghost use Rattle.model.specs.Answers.{fault_text};
 ghost use Rattle.model.specs.Numbers.{number_of};
+
+use std::fmt;
 
 /// The reasons for a refusal, in the order of their numbers.
 #[derive(Clone, Copy)]
@@ -40,7 +43,7 @@ pub enum Fault {
 }
 
 impl Fault {
-    /// The number that users know it by.
+    /// The number that users know it by. A method, since `u8::from(fault)` would not say so.
     pub fn number(self) -> u8
         ensures { result ≡ number_of self }
     {
@@ -61,6 +64,19 @@ impl Fault {
             Fault::Terminated => 14,
             Fault::Broken(_) => 15,
             Fault::Differs => 16,
+        }
+    }
+}
+
+/// As users read it: the number, and behind 15 the role.
+impl fmt::Display for Fault {
+    ghost output = { λ f. Some (fault_text f) };
+
+    fn fmt<W: fmt::Write>(&self, f: &mut fmt::Formatter<W>) -> fmt::Result {
+        let number = self.number();
+        match self {
+            Fault::Broken(role) => write!(f, "{number} {role}"),
+            _ => write!(f, "{number}"),
         }
     }
 }

@@ -11,6 +11,7 @@ ghost use Rattle.model.specs.Ways.{FoundExactly};
 ghost use Rattle.model.specs.Meanings.{Meanings};
 ghost use Rattle.model.specs.Cases.{Cases};
 
+pub mod answer;
 pub mod fault;
 
 /// A file that is found has an unbroken way from the first root, whatever was offered.

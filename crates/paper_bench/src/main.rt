@@ -10,31 +10,26 @@ use std::time::Instant;
 /// How often each is done.
 const ROUNDS: u32 = 2000;
 
-/// Nanoseconds for one reading, and how many of the readings were of a good paper. The last byte, 0 or 1 in a list with
-/// branches, is another each time, so that no reading can be left out.
-fn time_reading(rt: &HostRuntime, paper: &mut [u8]) -> io::Result<(u128, u32)> {
+/// Nanoseconds for one step.
+fn time<F: FnMut()>(rt: &HostRuntime, mut step: F) -> io::Result<u128>
+    requires { F.IsAlwaysCallable step }
+{
     let start = Instant::now(rt)?;
-    let mut good = 0u32;
     for _ in 0..ROUNDS {
-        let size = paper.len();
-        if size > 0 {
-            paper[size - 1] ^= 1;
-        }
-        if metadata_in(paper).is_ok() {
-            good = good.saturating_add(1);
-        }
+        step();
     }
-    Ok((start.elapsed(rt)?.as_nanos() / ROUNDS as u128, good))
+    Ok(start.elapsed(rt)?.as_nanos() / ROUNDS as u128)
 }
 
-/// Nanoseconds for one digest, and a byte made of all of them.
-fn time_digest(rt: &HostRuntime, paper: &[u8]) -> io::Result<(u128, u8)> {
-    let start = Instant::now(rt)?;
-    let mut mixed = 0u8;
-    for _ in 0..ROUNDS {
-        mixed ^= sha256(paper)[0];
+/// Reads a paper, and counts it if it is good. The last byte, 0 or 1 in a list with branches, is another each time, so that
+/// no reading can be left out.
+fn read_once(paper: &mut [u8], good: &mut u32) {
+    if let Some(last) = paper.last_mut() {
+        *last ^= 1;
     }
-    Ok((start.elapsed(rt)?.as_nanos() / ROUNDS as u128, mixed))
+    if metadata_in(paper).is_ok() {
+        *good = good.saturating_add(1);
+    }
 }
 
 fn measure(rt: &HostRuntime) -> anyhow::Result<()> {
@@ -43,8 +38,10 @@ fn measure(rt: &HostRuntime) -> anyhow::Result<()> {
     if paper.is_empty() {
         return Ok(());
     }
-    let (reading, good) = time_reading(rt, paper.as_mut_slice())?;
-    let (digest, mixed) = time_digest(rt, &paper)?;
+    let mut good = 0u32;
+    let reading = time(rt, || read_once(paper.as_mut_slice(), &mut good))?;
+    let mut mixed = 0u8;
+    let digest = time(rt, || mixed ^= sha256(&paper)[0])?;
     let size = paper.len();
     println!(rt; "{size} bytes, read well {good} times, mixed {mixed}")?;
     println!(rt; "reading {reading} ns, SHA-256 {digest} ns")?;

@@ -2,10 +2,12 @@
 #![tactic(auto)]
 
 ghost use Rattle.std.specs.Prelude.{[], ◌∷◌, ◌≡◌, ◌+◌, eqb};
-ghost use Rattle.model.specs.Taking.{first_fault, must, stays as stays_of};
+ghost use Rattle.model.specs.Taking.{must, stays as stays_of};
 ghost use Rattle.model.specs.declared.fault.Fault.TheVariants.{NotEnough, NotNext};
 ghost use Rattle.metadata.specs.Views.{root_of};
+ghost use Rattle.judging.specs.Verdicts.{Verdict};
 
+use judging::must;
 use metadata::root::Root;
 use model::fault::Fault;
 use wire::quorum::same_quorum;
@@ -17,18 +19,19 @@ pub fn is_next(present: Root<'_>, offered: Root<'_>) -> bool
     offered.version as u64 == present.version as u64 + 1
 }
 
-/// What speaks against a root, the lowest number first; `enough` and `own` say whether its signers are enough for the present
-/// root and for itself.
-pub fn root_fault(present: Root<'_>, offered: Root<'_>, enough: bool, own: bool) -> Option<Fault>
-    ensures { result ≡ first_fault (must enough NotEnough ∷ must own NotNext ∷ must (eqb offered.entry.version (present.entry.version + 1)) NotNext ∷ []) }
+/// Judges a root, with the lowest number of what speaks against it; `enough` and `own` say whether its signers are enough for the
+/// present root and for itself.
+pub fn check_root(
+    present: Root<'_>,
+    offered: Root<'_>,
+    enough: bool,
+    own: bool,
+) -> Result<(), Fault>
+    ensures { Verdict (must enough NotEnough ∷ must own NotNext ∷ must (eqb offered.entry.version (present.entry.version + 1)) NotNext ∷ []) result }
 {
-    if !enough {
-        return Some(Fault::NotEnough);
-    }
-    if !own || !is_next(present, offered) {
-        return Some(Fault::NotNext);
-    }
-    None
+    must(enough, Fault::NotEnough)?;
+    must(own, Fault::NotNext)?;
+    must(is_next(present, offered), Fault::NotNext)
 }
 
 /// Whether timestamp and snapshot stay under a new root: both their quorums are the same as before.

@@ -12,7 +12,7 @@ use Rattle.wire.specs.Tables.{follows, read_rising, table}
 use Rattle.wire.specs.Leaves.{path, steps, steps_of, within}
 use Rattle.wire.proofs.Laws.{not-ok, same_ok, inv-then, inv-only, inv-unless}
 use Rattle.signature.specs.Signatures.{signature, signatures}
-use Rattle.stream_next.specs.Items.{Item, Offers, Begins, Asks, Installs, sized_by, offer_in, ask_in, install_in, item_in}
+use Rattle.stream.specs.Items.{Item, Offers, Begins, Asks, Installs, sized_by, offer_in, ask_in, install_in, item_in}
 
 -- of a reader: what is left is not longer
 abbrev pub Shrinks : {A : Type 0} → (List ℕ → Result (A × List ℕ) Fault) → Type 0

@@ -4,32 +4,13 @@ ghost use Rattle.device_next.specs.Holding.{device_of};
 ghost use Rattle.device_next.specs.Views.{holding_of};
 ghost use Rattle.running.specs.Runs.{Runs};
 
-use device_next::answer::Answer;
 use device_next::state::Device;
+use device_next::stop::answer_to;
+use model::answer::Answer;
 use model::fault::Fault;
 use signature::verifier::Verifier;
 use std::alloc::{AllocError, Global};
-use std::fmt;
-use stream_next::{Item, split_item};
-
-/// An answer as users read it: `taken`, or the fault's number, and behind 15 the role.
-#[derive(Clone, Copy)]
-pub struct Line(pub Answer);
-
-impl fmt::Display for Line {
-    fn fmt<W: fmt::Write>(&self, f: &mut fmt::Formatter<W>) -> fmt::Result {
-        match self.0 {
-            Answer::Taken => f.write_str("taken"),
-            Answer::Refused(fault) => {
-                let number = fault.number();
-                match fault {
-                    Fault::Broken(role) => write!(f, "{number} {role}"),
-                    _ => write!(f, "{number}"),
-                }
-            }
-        }
-    }
-}
+use stream::{Item, split_item};
 
 /// The answers to a stream of items, one for each. A fault in the stream is the last answer.
 pub fn run<V: Verifier>(
@@ -43,24 +24,24 @@ pub fn run<V: Verifier>(
     let mut answers = Vec::new(heap);
     let mut left = bytes;
     while !left.is_empty() {
+        // Not one `match` for both: its last arm would know nothing of the item.
         let (item, rest) = match split_item(left) {
             Ok(read) => read,
             Err(fault) => {
-                answers.push(Answer::Refused(fault))?;
+                answers.push(Err(fault))?;
                 return Ok(answers);
             }
         };
         match item {
-            Item::Offer { paper, signatures } => {
-                let answer = device.offer(heap, verifier, paper, signatures)?;
+            Item::Offer(offer) => {
+                let answer = answer_to(device.offer(heap, verifier, offer))?;
                 answers.push(answer)?;
             }
             Item::Day(day) => {
-                let answer = device.begin(day);
-                answers.push(answer)?;
+                answers.push(device.begin(day))?;
             }
             _ => {
-                answers.push(Answer::Refused(Fault::Malformed))?;
+                answers.push(Err(Fault::Malformed))?;
                 return Ok(answers);
             }
         }

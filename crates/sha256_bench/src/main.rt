@@ -5,7 +5,7 @@ use digest::Sha256;
 use std::io;
 use std::io::Read;
 
-// Hashes all that the input gives, a buffer at a time.
+// Hashes all that the input gives, a buffer at a time. A reader may never end, so the loop is bounded.
 fn hash_all(rt: &HostRuntime) -> io::Result<[u8; 32]> {
     let mut input = rt.stdin();
     let mut buffer = vec![in rt.alloc(); 0u8; 65536]?;
@@ -21,9 +21,6 @@ fn hash_all(rt: &HostRuntime) -> io::Result<[u8; 32]> {
 }
 
 fn main(rt: HostRuntime) -> io::Result<()> {
-    let digest = hash_all(&rt)?;
-    for byte in &digest {
-        print!(rt; "{byte:02x}")?;
-    }
-    println!(rt; "")
+    let digest = hex::encode(rt.alloc(), hash_all(&rt)?)?;
+    println!(rt; "{digest}")
 }

@@ -1,6 +1,6 @@
 -- One signature for each key that has a right one. Assumes nothing.
-use Rattle.std.proofs.Common.{◌≡◌, ℕ, Bool, true, false, cond, ◌&&◌, ◌||◌, T, List, [], ◌∷◌, ◌++◌, map, length, is_some, Some, None, filter, Option, sym, refl, ap, ◌∙◌, subst, append_assoc, append-nil, arith}
-use mathlib.Core.List.{Memᴰ, map-append}
+use Rattle.std.proofs.Common.{◌≡◌, ℕ, Bool, true, false, cond, ◌&&◌, ◌||◌, T, List, [], ◌∷◌, ◌++◌, map, length, is_some, Some, None, filter, Option, sym, refl, ap, ◌∙◌, subst, append-nil, arith}
+use mathlib.Core.List.{Memᴰ}
 use Rattle.std.specs.Option.{option_to_list}
 use Rattle.std.proofs.lemmas.List.{length-map, nil_from_length}
 use Rattle.model.specs.Lists.{first, First}
@@ -11,7 +11,7 @@ use Rattle.model.proofs.Count.{counts, no_more, enough-means}
 use Rattle.model.proofs.Facts.{and_l, and_r, both_hold, is_true, Decides}
 use Rattle.model.proofs.ListFacts.{first-is, first_found}
 use Rattle.model.proofs.Same.{tells, bytes}
-use Rattle.signature.specs.Counting.{Chosen, AllSigned, Backed, OneKeyOnce}
+use Rattle.signature.specs.Counting.{Chosen, Backed, OneKeyOnce}
 use Rattle.signature.specs.Signatures.{Signature, Accepts, is_right, right_of, signers_in}
 
 module _ (accepts : Accepts) (m : List ℕ) (ss : List Signature) where
@@ -85,27 +85,6 @@ module _ (accepts : Accepts) (m : List ℕ) (ss : List Signature) where
   pub chosen : (q : Quorum) → Chosen accepts m q ss (firsts accepts m ss (once q.keys))
   chosen q = record { keys = firsts-keys (once q.keys); firsts = firsts-first (once q.keys) }
 
-  -- ONE KEY AFTER THE OTHER
-
-  -- what counts for the first key, and what counts for the later ones
-  firsts-next : (keys : List Key) (k : Key) (later : List Key) (o : Option Signature) → keys ≡ k ∷ later → o ≡ cond (is_in k later) None (first_of accepts m ss k) →
-      firsts accepts m ss (once keys) ≡ option_to_list o ++ firsts accepts m ss (once later)
-  firsts-next keys k later o e h =
-      ap (λ ks. firsts accepts m ss (once ks)) e
-      ∙ firsts-once accepts m ss k later
-      ∙ ap (λ (p : Option Signature). option_to_list p ++ firsts accepts m ss (once later)) (sym h)
-
-  -- shown: what an item of the list stands for
-  pub firsts-push : {A : Type 0} (shown : A → Signature) (keys : List Key) (k : Key) (later : List Key) (x : A) (xs ys : List A) (whole : List Signature) →
-      keys ≡ k ∷ later → Some (shown x) ≡ cond (is_in k later) None (first_of accepts m ss k) → ys ≡ xs ++ x ∷ [] →
-      map shown xs ++ firsts accepts m ss (once keys) ≡ whole → map shown ys ++ firsts accepts m ss (once later) ≡ whole
-  firsts-push shown keys k later x xs ys whole e h p inv =
-      ap (λ l. map shown l ++ firsts accepts m ss (once later)) p
-      ∙ ap (λ l. l ++ firsts accepts m ss (once later)) (map-append shown xs (x ∷ []))
-      ∙ append_assoc (map shown xs) (shown x ∷ []) (firsts accepts m ss (once later))
-      ∙ ap (λ l. map shown xs ++ l) (sym (firsts-next keys k later (Some (shown x)) e h))
-      ∙ inv
-
   pub firsts-over : (q : Quorum) (keys : List Key) (ts : List Signature) → length keys ≡ 0 → ts ++ firsts accepts m ss (once keys) ≡ firsts accepts m ss (once q.keys) → Chosen accepts m q ss ts
   firsts-over q keys ts l inv =
       subst (Chosen accepts m q ss)
@@ -115,11 +94,7 @@ module _ (accepts : Accepts) (m : List ℕ) (ss : List Signature) where
   pub chosen-many : (q : Quorum) (ts : List Signature) → Chosen accepts m q ss ts → length ts ≡ length (counted q (signers_in accepts m ss))
   chosen-many q ts c = sym (length-map ts (λ (s : Signature). s.key)) ∙ ap length c.keys
 
-  -- WHO SIGNED
-
-  module _ (signed : Key → List ℕ → Bool) (sound : (k p s : List ℕ) → T (accepts k p s) → T (signed k p)) where
-    pub chosen-signed : (q : Quorum) (ts : List Signature) → Chosen accepts m q ss ts → AllSigned signed m ts
-    chosen-signed q ts c s i = sound s.key m s.bytes (c.firsts s i).is.1
+-- WHO SIGNED
 
 -- what holds of the key of each right signature holds of the signers
 signers-all : (accepts : Accepts) (m : List ℕ) (P : Key → Type 0) (ss : List Signature) → ((s : Signature) → Memᴰ s ss → T (is_right accepts m s) → P s.key) → (k : Key) → Memᴰ k (signers_in accepts m ss) → P k

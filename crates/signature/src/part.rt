@@ -6,7 +6,7 @@ ghost use Rattle.signature.specs.Views.{signatures_of};
 
 use model::fault::Fault;
 use wire::key::Bytes32;
-use wire::number::read_u8;
+use wire::number::read_number;
 
 /// The 32 bytes of a key, and the 64 of a signature that is said to be of it.
 pub type Signature = [u8; 96];
@@ -21,9 +21,7 @@ pub struct Signatures<'a> {
 pub fn read_signatures(bytes: &[u8]) -> Result<(Signatures<'_>, &[u8]), Fault>
     ensures { Reads signatures_of result (signatures_f.read bytes.now) }
 {
-    let Some((count, rest)) = read_u8(bytes) else {
-        return Err(Fault::Malformed);
-    };
+    let (count, rest) = read_number::<u8, 1>(bytes)?;
     let size = count as usize * 96;
     if rest.len() < size {
         return Err(Fault::Malformed);
@@ -37,13 +35,10 @@ pub fn read_signatures(bytes: &[u8]) -> Result<(Signatures<'_>, &[u8]), Fault>
 pub fn key_and_bytes(signature: &Signature) -> (&Bytes32, &[u8; 64])
     ensures { (result.0.now ≡ take 32 signature.now) × (result.1.now ≡ drop 32 signature.now) }
 {
-    match (
-        signature.split_first_chunk::<32>(),
-        signature.split_last_chunk::<64>(),
-    ) {
-        (Some((key, _)), Some((_, bytes))) => (key, bytes),
-        _ => unreachable(),
-    }
+    (
+        signature.first_chunk().unwrap(),
+        signature.last_chunk().unwrap(),
+    )
 }
 
 /// What is written of signatures is read back, and what is read is written as it was.

@@ -1,7 +1,6 @@
 //! A stand-in for a signature scheme, for programs, examples and tests. **Anybody can make its signatures: never for use in the field.**
 ghost use Rattle.std.specs.Prelude.{◌≡◌, ◌++◌};
 ghost use Rattle.digest.specs.Sha256.{sha256 as sha256_of};
-ghost use Rattle.model.specs.Same.{same_list};
 ghost use Rattle.signature.specs.StandIn.{stand_in_signature, stand_in_accepts, stand_in_signed, AnybodySigns};
 ghost use Rattle.model.proofs.Same.{bytes};
 
@@ -35,13 +34,6 @@ pub fn sign_stand_in(key: &Bytes32, message: &[u8]) -> [u8; 64]
     signature
 }
 
-/// Whether all bytes of two signatures are the same.
-fn same_signature(a: &[u8; 64], b: &[u8; 64]) -> bool
-    ensures { result ≡ same_list a.now b.now }
-{
-    a == b
-}
-
 impl Verifier for StandIn {
     ghost accepts = { stand_in_accepts };
 
@@ -49,8 +41,9 @@ impl Verifier for StandIn {
 
     ghost sound = { λ k m s t. bytes.itself (stand_in_signature k m) };
 
+    #[tactic(auto, using(crate::proofs::Among::bytes_equal))]
     fn check(&self, key: &Bytes32, message: &[u8], signature: &[u8; 64]) -> bool {
-        same_signature(signature, &sign_stand_in(key, message))
+        signature == &sign_stand_in(key, message)
     }
 }
 

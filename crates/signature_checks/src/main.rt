@@ -4,7 +4,7 @@
 ghost use Rattle.std.specs.Prelude.{false};
 ghost use Rattle.std.proofs.Common.{rules};
 
-use signature::counting::is_enough;
+use signature::counting::Signed;
 use signature::part::Signatures;
 use signature::verifier::Verifier;
 use wire::key::Bytes32;
@@ -35,15 +35,21 @@ fn main(rt: HostRuntime) -> anyhow::Result<()> {
         threshold: 1,
         keys: &[[1; 32], [2; 32], [2; 32]],
     };
+    let loud = Loud { rt };
+    let signed = |signatures| Signed {
+        verifier: &loud,
+        message: b"paper",
+        signatures,
+    };
     let same = Signatures {
         items: &[[1; 96]; 255],
     };
     println!(rt; "one wrong signature 255 times")?;
-    let _ = is_enough(&Loud { rt }, quorum, b"paper", same);
+    let _ = signed(same).is_enough(quorum);
     let mixed = Signatures {
         items: &[[3; 96], [2; 96], [3; 96], [1; 96], [2; 96]],
     };
     println!(rt; "signatures of two keys, and of another")?;
-    let _ = is_enough(&Loud { rt }, quorum, b"paper", mixed);
+    let _ = signed(mixed).is_enough(quorum);
     Ok(())
 }

@@ -3,7 +3,7 @@ ghost use Rattle.std.specs.Prelude.{true, ◌==◌, slice_index};
 ghost use Rattle.std.proofs.Common.{rules};
 
 use model::fault::Fault;
-use signature::counting::{count, is_enough};
+use signature::counting::Signed;
 use signature::part::{Signatures, read_signatures};
 use signature::stand_in::{StandIn, sign_stand_in};
 use signature::verifier::Verifier;
@@ -60,17 +60,18 @@ fn expect(
         threshold: 2,
         keys: &[[1; 32], [2; 32], [3; 32]],
     };
-    let found = count(heap, &StandIn, quorum, MESSAGE, signatures)?;
+    let signed = Signed {
+        verifier: &StandIn,
+        message: MESSAGE,
+        signatures,
+    };
+    let found = signed.count(heap, quorum)?;
     assert_eq!(rt; found.signatures.len(), counted.len(), "{case}");
     for (signature, key) in found.signatures.iter().zip(counted) {
         assert_eq!(rt; signature[31], *key, "{case}");
     }
-    assert_eq!(rt; found.enough, enough, "{case}");
-    assert_eq!(rt;
-        is_enough(&StandIn, quorum, MESSAGE, signatures),
-        enough,
-        "{case}"
-    );
+    assert_eq!(rt; found.is_enough(), enough, "{case}");
+    assert_eq!(rt; signed.is_enough(quorum), enough, "{case}");
     Ok(())
 }
 
@@ -124,13 +125,12 @@ fn the_first_right_signature_is_given_back(rt: HostRuntime) -> Result<(), Fail> 
         threshold: 1,
         keys: &[[0; 32]],
     };
-    let found = count(
-        rt.alloc(),
-        &Lenient,
-        quorum,
-        MESSAGE,
-        Signatures { items: &items },
-    )?;
+    let signed = Signed {
+        verifier: &Lenient,
+        message: MESSAGE,
+        signatures: Signatures { items: &items },
+    };
+    let found = signed.count(rt.alloc(), quorum)?;
     assert!(rt; found.signatures.len() == 1);
     assert_eq!(rt; found.signatures[0][50], 7);
     Ok(())

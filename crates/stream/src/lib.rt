@@ -1,80 +1,65 @@
 //! The items of a stream: offers, days, asks and installs, cut into their parts, which are parts of the same bytes.
 #![tactic(auto)]
 
-ghost use Rattle.wire.specs.Formats.{Reads, Cuts};
-ghost use Rattle.wire.specs.Numbers.{block};
-ghost use Rattle.stream.specs.Items.{item_in, offer_in, ask_in, install_in, signatures_in};
+ghost use Rattle.wire.specs.Formats.{Reads};
+ghost use Rattle.stream.specs.Items.{item_in, offer_in, ask_in, install_in, day_in};
 ghost use Rattle.stream.specs.Views.{item_of};
 
 use model::fault::Fault;
-use wire::number::{read_u8, read_u32, read_u64};
-use wire::path::{Step, read_path};
+use signature::part::{Signatures, read_signatures};
+use wire::number::{read_number, read_sized};
+use wire::path::{Step, read_steps};
+
+/// A paper's bytes, and the signatures that came with it.
+#[derive(Clone, Copy)]
+pub struct Offer<'a> {
+    pub paper: &'a [u8],
+    pub signatures: Signatures<'a>,
+}
 
 /// One item of a stream.
 #[derive(Clone, Copy)]
 pub enum Item<'a> {
-    /// A paper's bytes, and behind it the signatures with their count.
-    Offer {
-        paper: &'a [u8],
-        signatures: &'a [u8],
-    },
+    /// A paper is offered.
+    Offer(Offer<'a>),
     /// A day begins, by its number.
     Day(u64),
     /// What is found for a path.
-    Ask {
-        path: &'a [Step],
-    },
+    Ask { path: &'a [Step] },
     /// A file to install for a path.
-    Install {
-        path: &'a [Step],
-        file: &'a [u8],
-    },
+    Install { path: &'a [Step], file: &'a [u8] },
 }
 
-/// So many bytes.
-fn read_sized(bytes: &[u8], size: u64) -> Option<(&[u8], &[u8])>
-    ensures { Cuts (λ p. p.now) result ((block size).read bytes.now) }
+fn read_offer(bytes: &[u8]) -> Result<(Item<'_>, &[u8]), Fault>
+    ensures { Reads item_of result (offer_in bytes.now) }
 {
-    if (bytes.len() as u64) < size {
-        return None;
-    }
-    Some(bytes.split_at(size as usize))
-}
-
-/// The signatures behind a paper: their count, and so many of them.
-fn read_signatures(bytes: &[u8]) -> Option<(&[u8], &[u8])>
-    ensures { Cuts (λ p. p.now) result (signatures_in bytes.now) }
-{
-    let (count, _) = read_u8(bytes)?;
-    read_sized(bytes, 1 + 96 * count as u64)
-}
-
-fn read_offer(bytes: &[u8]) -> Option<(Item<'_>, &[u8])>
-    ensures { Cuts item_of result (offer_in bytes.now) }
-{
-    let (length, rest) = read_u32(bytes)?;
+    let (length, rest) = read_number::<u32, 4>(bytes)?;
     let (paper, rest) = read_sized(rest, length as u64)?;
     let (signatures, rest) = read_signatures(rest)?;
-    Some((Item::Offer { paper, signatures }, rest))
+    let offer = Offer { paper, signatures };
+    Ok((Item::Offer(offer), rest))
+}
+
+fn read_day(bytes: &[u8]) -> Result<(Item<'_>, &[u8]), Fault>
+    ensures { Reads item_of result (day_in bytes.now) }
+{
+    let (day, rest) = read_number(bytes)?;
+    Ok((Item::Day(day), rest))
 }
 
 fn read_ask(bytes: &[u8]) -> Result<(Item<'_>, &[u8]), Fault>
     ensures { Reads item_of result (ask_in bytes.now) }
 {
-    let (path, rest) = read_path(bytes)?;
+    let (path, rest) = read_steps::<1>(bytes)?;
     Ok((Item::Ask { path }, rest))
 }
 
 fn read_install(bytes: &[u8]) -> Result<(Item<'_>, &[u8]), Fault>
     ensures { Reads item_of result (install_in bytes.now) }
 {
-    let (path, rest) = read_path(bytes)?;
-    let Some((length, rest)) = read_u64(rest) else {
-        return Err(Fault::Malformed);
-    };
-    let Some((file, rest)) = read_sized(rest, length) else {
-        return Err(Fault::Malformed);
-    };
+    let (path, rest) = read_steps::<1>(bytes)?;
+    let (length, rest) = read_number(rest)?;
+    let (file, rest) = read_sized(rest, length)?;
     Ok((Item::Install { path, file }, rest))
 }
 
@@ -82,22 +67,11 @@ fn read_install(bytes: &[u8]) -> Result<(Item<'_>, &[u8]), Fault>
 pub fn split_item(bytes: &[u8]) -> Result<(Item<'_>, &[u8]), Fault>
     ensures { Reads item_of result (item_in bytes.now) }
 {
-    let Some((kind, rest)) = read_u8(bytes) else {
-        return Err(Fault::Malformed);
-    };
+    // The kind is a number in the format, with a refusal for all others.
+    let (kind, rest) = read_number::<u8, 1>(bytes)?;
     match kind {
-        16 => {
-            let Some((offer, rest)) = read_offer(rest) else {
-                return Err(Fault::Malformed);
-            };
-            Ok((offer, rest))
-        }
-        17 => {
-            let Some((day, rest)) = read_u64(rest) else {
-                return Err(Fault::Malformed);
-            };
-            Ok((Item::Day(day), rest))
-        }
+        16 => read_offer(rest),
+        17 => read_day(rest),
         18 => read_ask(rest),
         19 => read_install(rest),
         _ => Err(Fault::Malformed),

@@ -2,8 +2,8 @@
 #![tactic(auto)]
 
 use anyhow::anyhow;
-use device_next::answer::Answer;
 use device_next::state::Device;
+use device_next::stop::Stop;
 use encoding_papers::paper::paper_bytes;
 use metadata::paper::Metadata;
 use metadata::root::Root;
@@ -13,6 +13,7 @@ use signature::stand_in::{StandIn, sign_stand_in};
 use std::alloc::{AllocError, Global};
 use std::env;
 use std::time::Instant;
+use stream::Offer;
 use wire::key::Bytes32;
 use wire::quorum::Quorum;
 
@@ -69,6 +70,14 @@ fn signed(heap: Global, paper: &[u8], key: &Bytes32) -> Result<Vec<u8>, AllocErr
     Ok(bytes)
 }
 
+/// A paper, with the signatures that come with it.
+fn offered<'a>(paper: &'a [u8], part: &'a [u8]) -> anyhow::Result<Offer<'a>> {
+    match read_signatures(part) {
+        Ok((signatures, _)) => Ok(Offer { paper, signatures }),
+        Err(_) => Err(anyhow!("the signature is malformed")),
+    }
+}
+
 /// Nanoseconds for an offer that is taken. Its paper is signed before.
 fn offer(
     rt: &HostRuntime,
@@ -77,15 +86,14 @@ fn offer(
     key: &Bytes32,
 ) -> anyhow::Result<u128> {
     let bytes = signed(rt.alloc(), paper, key)?;
-    let Ok((signatures, _)) = read_signatures(&bytes) else {
-        return Err(anyhow!("the signature is malformed"));
-    };
+    let offer = offered(paper, &bytes)?;
     let start = Instant::now(rt)?;
-    let answer = device.offer(rt.alloc(), &StandIn, paper, signatures)?;
+    let answer = device.offer(rt.alloc(), &StandIn, offer);
     let took = start.elapsed(rt)?.as_nanos();
     match answer {
-        Answer::Taken => Ok(took),
-        Answer::Refused(_) => Err(anyhow!("an offer is refused")),
+        Ok(()) => Ok(took),
+        Err(Stop::Refused(_)) => Err(anyhow!("an offer is refused")),
+        Err(Stop::Memory(error)) => Err(error.into()),
     }
 }
 
@@ -119,8 +127,10 @@ fn measure(rt: &HostRuntime, device: &mut Device, from: u32, to: u32) -> anyhow:
 
 fn measure_both(rt: &HostRuntime, many: u32) -> anyhow::Result<()> {
     let heap = rt.alloc();
-    let Ok(mut device) = Device::new(heap, &root_paper(heap, 1)?)? else {
-        return Err(anyhow!("the first root is refused"));
+    let mut device = match Device::new(heap, &root_paper(heap, 1)?) {
+        Ok(device) => device,
+        Err(Stop::Refused(_)) => return Err(anyhow!("the first root is refused")),
+        Err(Stop::Memory(error)) => return Err(error.into()),
     };
     measure(rt, &mut device, 1, 100)?;
     measure(rt, &mut device, 100, many)

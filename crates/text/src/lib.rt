@@ -1,5 +1,4 @@
 //! The text of papers, one field a line, in the users' words.
 #![tactic(auto)]
 
-pub mod line;
 pub mod paper;

@@ -3,8 +3,8 @@ use Rattle.std.proofs.Common.{◌≡◌, ℕ, zero, suc, ◌+◌, ◌-◌, ◌<�
 use Rattle.std.specs.List.{flat_map}
 use Rattle.std.proofs.lemmas.List.{flat_map_more}
 use Rattle.wire.specs.Formats.{Bytes}
-use Rattle.formats.specs.Formats.{FormatOf, Lawful, and_then}
-use Rattle.formats.proofs.Laws.{inv-then, same_ok}
+use Rattle.wire.specs.Formats.{FormatOf, Lawful, and_then}
+use Rattle.wire.proofs.Laws.{inv-then, same_ok}
 use Rattle.line.specs.declared.expected.Bad.{Bad}
 use Rattle.text_form.specs.Chains.{read_chain, Chained, chain}
 

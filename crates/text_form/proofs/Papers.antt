@@ -7,12 +7,12 @@ use Rattle.std.proofs.lemmas.Bool.Decides.{nat_tests}
 use Rattle.model.specs.declared.fault.Fault.TheVariants.{OutOfRange}
 use Rattle.model.specs.Metadata.{Key, Steps, Meta, File, Delegation, Targets, Metadata, ARoot, ATimestamp, ASnapshot, ATargets}
 use Rattle.wire.specs.Formats.{Format, Bytes, pair as pair_of_bytes, only}
-use Rattle.formats.specs.Formats.{FormatOf, Lawful, and_then, pair}
+use Rattle.wire.specs.Formats.{FormatOf, Lawful, and_then, pair}
 use Rattle.wire.specs.Numbers as numbers
 use Rattle.wire.specs.Tables.{follows}
 use Rattle.wire.specs.Leaves as leaves
 use Rattle.wire.specs.Leaves.{below, within}
-use Rattle.formats.proofs.Laws.{same_ok, inv-then, inv-only, lawful-pair, lawful-pair-within, lawful-mapped}
+use Rattle.wire.proofs.Laws.{same_ok, inv-then, inv-only, lawful-pair, lawful-pair-within, lawful-mapped}
 use Rattle.metadata.specs.Papers as bytes
 use Rattle.metadata.specs.Papers.{WellFormed, bytes_of_paper}
 use Rattle.line.specs.Lines.{bare}
@@ -27,7 +27,7 @@ use Rattle.line.specs.declared.kind.Kind.{Kind}
 use Rattle.line.specs.declared.kind.Kind.TheVariants as kind
 use Rattle.line.proofs.Forms.{lawful-ruled}
 use Rattle.line.proofs.Leaves.{from-within, lawful-number-line, lawful-bytes-line, lawful-steps-line, lawful-flag-line, lawful-kind-line}
-use Rattle.text_next.specs.Texts.{paper_text}
+use Rattle.text.specs.Texts.{paper_text}
 use Rattle.text_form.specs.Texts.{version, last_day, key_line, keys, quorum, root, timestamp, meta, snapshot, file, files, delegation, delegations, contents, targets, wrapped, of_kind, Wf, paper, ended, text_in}
 use Rattle.text_form.specs.OneText.{OneText}
 use Rattle.text_form.proofs.Chains.{lawful-chain}

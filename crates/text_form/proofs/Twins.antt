@@ -4,7 +4,7 @@ use Rattle.std.specs.List.{flat_map, AllByRecursion}
 use Rattle.std.proofs.ByRecursion.{All-append}
 use Rattle.std.proofs.lemmas.Bool.{and_parts, and_from, eqb-true, eq-eqb, le-leb}
 use Rattle.wire.specs.Formats.{Format, Bytes, pair as pair_of_bytes, mapped as mapped_of_bytes}
-use Rattle.formats.specs.Formats.{FormatOf, pair, mapped}
+use Rattle.wire.specs.Formats.{FormatOf, pair, mapped}
 use Rattle.wire.specs.Numbers.{block, bytes_of}
 use Rattle.wire.specs.Tables.{follows, rises, rising}
 use Rattle.wire.specs.Leaves.{within, stepped, flag}

@@ -1,7 +1,7 @@
 -- Tables whose items are read one by one, each knowing the one before it. Assumes nothing.
 use Rattle.std.specs.Prelude.{◌≡◌, ℕ, zero, suc, List, [], ◌∷◌, length, Some, None, Ok, Option, Result}
 use Rattle.std.specs.List.{flat_map}
-use Rattle.formats.specs.Formats.{FormatOf, and_then}
+use Rattle.wire.specs.Formats.{FormatOf, and_then}
 use Rattle.line.specs.declared.expected.Bad.{Bad}
 
 module _ {A K : Type 0} (item : Option K → FormatOf Bad A) (key : A → K) where

@@ -3,7 +3,7 @@ use Rattle.std.specs.Prelude.{◌≡◌, ℕ, List, Ok}
 use Rattle.model.specs.Metadata.{Metadata}
 use Rattle.wire.specs.Formats.{Bytes}
 use Rattle.metadata.specs.Papers.{WellFormed, bytes_of_paper}
-use Rattle.text_next.specs.Texts.{paper_text}
+use Rattle.text.specs.Texts.{paper_text}
 use Rattle.text_form.specs.Texts.{text_in}
 
 -- a text is accepted exactly if it is the text of a paper that has bytes, and of one only

@@ -1,7 +1,7 @@
 -- The text of papers, read. Assumes nothing.
 use Rattle.std.specs.Prelude.{ℕ, ◌+◌, ◌-◌, cond, List, [], ◌∷◌, length, take, Ok, Err, Option, Result, ◌==◌, nat_lt}
 use Rattle.model.specs.Metadata.{Key, Steps, Quorum, Root, Timestamp, Meta, Snapshot, File, Delegation, Targets, Metadata, ARoot, ATimestamp, ASnapshot, ATargets}
-use Rattle.formats.specs.Formats.{FormatOf, and_then, pair, mapped}
+use Rattle.wire.specs.Formats.{FormatOf, and_then, pair, mapped}
 use Rattle.wire.specs.Tables.{follows}
 use Rattle.wire.specs.Leaves.{below}
 use Rattle.line.specs.Forms.{bad_at, line_of_number, line_of_bytes, line_of_steps, line_of_flag, line_of_kind, ruled}
@@ -11,7 +11,7 @@ use Rattle.line.specs.declared.expected.Word.TheVariants as word
 use Rattle.line.specs.declared.expected.Expected.TheVariants as expected
 use Rattle.line.specs.declared.kind.Kind.{Kind}
 use Rattle.line.specs.declared.kind.Kind.TheVariants as kind
-use Rattle.text_next.specs.Texts.{paper_text}
+use Rattle.text.specs.Texts.{paper_text}
 use Rattle.text_form.specs.Chains.{chain}
 
 -- a number from 1 on, and any number, of four bytes

@@ -1,10 +1,12 @@
 //! Taking timestamps.
 ghost use Rattle.std.specs.Prelude.{◌≡◌, [], ◌∷◌};
 ghost use Rattle.std.specs.Option.{option_map};
-ghost use Rattle.model.specs.Taking.{first_fault, must, in_time, newer};
+ghost use Rattle.model.specs.Taking.{must, in_time, newer};
 ghost use Rattle.model.specs.declared.fault.Fault.TheVariants.{NotEnough, NotNewer, Expired};
 ghost use Rattle.metadata.specs.Views.{timestamp_of};
+ghost use Rattle.judging.specs.Verdicts.{Verdict};
 
+use judging::must;
 use metadata::timestamp::Timestamp;
 use model::fault::Fault;
 
@@ -19,29 +21,19 @@ pub fn in_time(today: u64, expires: u32) -> bool
 pub fn is_newer(offered: Timestamp<'_>, kept: Option<Timestamp<'_>>) -> bool
     ensures { result ≡ newer (timestamp_of offered.entry) (option_map timestamp_of kept.entry) }
 {
-    match kept {
-        Some(old) => old.version < offered.version && old.snapshot <= offered.snapshot,
-        None => true,
-    }
+    kept.is_none_or(|old| old.version < offered.version && old.snapshot <= offered.snapshot)
 }
 
-/// What speaks against a timestamp, the lowest number first.
-pub fn timestamp_fault(
+/// Judges a timestamp, with the lowest number of what speaks against it.
+pub fn check_timestamp(
     offered: Timestamp<'_>,
     kept: Option<Timestamp<'_>>,
     today: u64,
     enough: bool,
-) -> Option<Fault>
-    ensures { result ≡ first_fault (must enough NotEnough ∷ must (newer (timestamp_of offered.entry) (option_map timestamp_of kept.entry)) NotNewer ∷ must (in_time today offered.entry.expires) Expired ∷ []) }
+) -> Result<(), Fault>
+    ensures { Verdict (must enough NotEnough ∷ must (newer (timestamp_of offered.entry) (option_map timestamp_of kept.entry)) NotNewer ∷ must (in_time today offered.entry.expires) Expired ∷ []) result }
 {
-    if !enough {
-        return Some(Fault::NotEnough);
-    }
-    if !is_newer(offered, kept) {
-        return Some(Fault::NotNewer);
-    }
-    if !in_time(today, offered.expires) {
-        return Some(Fault::Expired);
-    }
-    None
+    must(enough, Fault::NotEnough)?;
+    must(is_newer(offered, kept), Fault::NotNewer)?;
+    must(in_time(today, offered.expires), Fault::Expired)
 }

@@ -1,5 +1,6 @@
 pub mod Laws
 pub mod Numbers
+pub mod Digits
 pub mod Tables
 pub mod Chunks
 pub mod Leaves

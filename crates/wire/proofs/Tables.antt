@@ -1,11 +1,14 @@
 -- What a loop that reads a table keeps, and the laws of tables. Assumes nothing.
-use Rattle.std.proofs.Common.{◌≡◌, ℕ, zero, suc, ◌+◌, ◌-◌, ◌<◌, ◌≤◌, Bool, true, false, cond, List, [], ◌∷◌, ◌++◌, length, Some, None, Ok, Err, Option, Result, sym, refl, ap, ◌∙◌, subst, append_assoc, append-nil, arith}
+use Rattle.std.proofs.Common.{◌≡◌, ℕ, zero, suc, ◌+◌, ◌-◌, ◌*◌, ◌<◌, ◌≤◌, Bool, true, false, cond, ltb, List, [], ◌∷◌, ◌++◌, length, take, drop, length-drop, suc-mul, zero-mul, Some, None, Ok, Err, Option, Result, sym, refl, ap, ◌∙◌, subst, append_assoc, append-nil, arith}
 use Rattle.std.specs.List.{flat_map, AllByRecursion}
+use Rattle.std.specs.Simd.{first_chunks}
+use Rattle.std.proofs.lemmas.Bool.{ltb-false}
 use Rattle.model.specs.declared.fault.Fault.{Fault}
-use Rattle.model.specs.declared.fault.Fault.TheVariants.{OutOfOrder}
+use Rattle.model.specs.declared.fault.Fault.TheVariants.{Malformed, OutOfOrder}
 use Rattle.wire.specs.Formats.{Format, Lawful, Bytes, and_then}
+use Rattle.wire.specs.Numbers.{block}
 use Rattle.wire.specs.Tables.{follows, read_rising, rises, rising, if_read, items}
-use Rattle.wire.proofs.Laws.{inv-then, same_ok, not-ok}
+use Rattle.wire.proofs.Laws.{inv-then, inv-unless, same_ok, not-ok}
 
 -- what was read before, and then the rest
 abbrev pub extended : {A : Type 0} → List A → Result (List A × List ℕ) Fault → Result (List A × List ℕ) Fault
@@ -113,6 +116,23 @@ module _ {A K : Type 0} (f : Format A) (key : A → K) (below : K → K → Bool
       once = λ bs xs rest b h. rising-once n None bs (xs, rest) b h;
     }
 
+-- items that are blocks stand one behind the other as chunks of the bytes
+pub blocks-read : (w : ℕ) {K : Type 0} (key : List ℕ → K) (below : K → K → Bool) (n : ℕ) (last : Option K) (bs : List ℕ) (y : List (List ℕ) × List ℕ) →
+    read_rising (block w) key below last n bs ≡ Ok y → (n * w ≤ length bs) × (y.0 ≡ first_chunks w n bs)
+blocks-read w key below zero last bs y h = (omega (arith, zero-mul w), ap (λ (p : List (List ℕ) × List ℕ). p.0) (sym (same_ok h)))
+blocks-read w key below (suc n) last bs y h =
+    let i = inv-then ((block w).read bs) (next (block w) key below last n) y h in
+    let x = i.0.0 in
+    let o = in_order (block w) key below (follows below last (key x)) (and_then (read_rising (block w) key below (Some (key x)) n i.0.1) (λ q. Ok (x ∷ q.0, q.1))) y i.2 in
+    let j = inv-then (read_rising (block w) key below (Some (key x)) n i.0.1) (λ q. Ok (x ∷ q.0, q.1)) y o.1 in
+    let b = inv-unless (ltb (length bs) w) Malformed (take w bs, drop w bs) i.0 i.1 in
+    let rest : i.0.1 ≡ drop w bs = ap (λ (p : List ℕ × List ℕ). p.1) (sym b.1) in
+    let first : x ≡ take w bs = ap (λ (p : List ℕ × List ℕ). p.0) (sym b.1) in
+    let more = blocks-read w key below n (Some (key x)) i.0.1 j.0 j.1 in
+    let enough = ltb-false (length bs) w b.0 in
+    let long : length i.0.1 ≡ length bs - w = ap length rest ∙ length-drop w bs in
+    (omega (arith, suc-mul n w), ap (λ (p : List (List ℕ) × List ℕ). p.0) (sym (same_ok j.2)) ∙ (λ k. first k ∷ more.1 k) ∙ ap (λ l. take w bs ∷ first_chunks w n l) rest)
+
 -- where any item may follow any other, the one before does not matter
 pub any_order : {A K : Type 0} (f : Format A) (key : A → K) (p q : Option K) (n : ℕ) (bs : List ℕ) → read_rising f key (λ _ _. true) p n bs ≡ read_rising f key (λ _ _. true) q n bs
 any_order f key p q zero bs = refl
@@ -120,6 +140,16 @@ any_order f key None None (suc n) bs = refl
 any_order f key None (Some b) (suc n) bs = refl
 any_order f key (Some a) None (suc n) bs = refl
 any_order f key (Some a) (Some b) (suc n) bs = refl
+
+-- one item more, or none
+few : {A : Type 0} (n : ℕ) (more : List ℕ → List A) → ((bs : List ℕ) → length (more bs) ≤ n) → (r : Result (A × List ℕ) Fault) → length (if_read [] (λ p. p.0 ∷ more p.1) r) ≤ suc n
+few n more h (Ok p) = omega (arith, h p.1)
+few n more h (Err e) = omega arith
+
+-- a table has at most as many as it counts
+pub items_few : {A : Type 0} (f : Format A) (n : ℕ) (bs : List ℕ) → length (items f n bs) ≤ n
+items_few f zero bs = omega arith
+items_few f (suc n) bs = few n (items f n) (items_few f n) (f.read bs)
 
 pub items-first : {A : Type 0} (f : Format A) (n : ℕ) (bs : List ℕ) → 0 < n → items f n bs ≡ if_read [] (λ p. p.0 ∷ items f (n - 1) p.1) (f.read bs)
 items-first f n bs h = let e : n ≡ suc (n - 1) = omega arith in ap (λ m. items f m bs) e

@@ -1,33 +1,55 @@
 //! Keys and digests as fixed byte strings.
 ghost use Rattle.std.specs.Prelude.{◌≡◌};
-ghost use Rattle.std.specs.Option.{option_map};
+ghost use Rattle.model.specs.Metadata.{Key};
 ghost use Rattle.model.specs.Same.{same_list};
-ghost use Rattle.wire.specs.Tables.{follows};
 ghost use Rattle.wire.specs.Leaves.{below};
+ghost use Rattle.wire.specs.Numbers.{block};
+
+use crate::number::read_block;
+use crate::table::Kind;
+use model::fault::Fault;
 
 /// The bytes of a key, or of a digest.
 pub type Bytes32 = [u8; 32];
 
-/// Whether two keys or digests are the same.
-pub fn same_bytes(a: &Bytes32, b: &Bytes32) -> bool
+/// Whether two byte strings are the same: `==`, with the law's word for it, so that callers need no lemma.
+pub fn same_bytes(a: &[u8], b: &[u8]) -> bool
     ensures { result ≡ same_list a.now b.now }
 {
     a == b
 }
 
-/// Whether one key comes before another.
+/// Whether one key comes before another: `<`, with the format's word for it.
 pub fn key_below(a: &Bytes32, b: &Bytes32) -> bool
     ensures { result ≡ below a.now b.now }
 {
     a < b
 }
 
-/// Whether a key may follow the last one, if there is one.
-pub fn key_follows(last: Option<&Bytes32>, key: &Bytes32) -> bool
-    ensures { result ≡ follows below (option_map (λ x. x.now) last.entry) key.now }
-{
-    match last {
-        Some(before) => key_below(before, key),
-        None => true,
+/// Keys, in rising order.
+#[derive(Clone, Copy)]
+pub struct Keys;
+
+impl<'a> Kind<'a> for Keys {
+    type Item = &'a Bytes32;
+
+    ghost Plain = { Key };
+
+    ghost Key = { Key };
+
+    ghost form = { block 32 };
+
+    ghost plain = { λ k. k.now };
+
+    ghost key = { λ k. k };
+
+    ghost below = { below };
+
+    fn read(bytes: &'a [u8]) -> Result<(&'a Bytes32, &'a [u8]), Fault> {
+        read_block::<32>(bytes)
+    }
+
+    fn follows(item: &'a Bytes32, before: &'a Bytes32) -> bool {
+        key_below(before, item)
     }
 }

@@ -5,3 +5,4 @@ pub mod key;
 pub mod number;
 pub mod path;
 pub mod quorum;
+pub mod table;

@@ -1,15 +1,35 @@
-use Rattle.std.proofs.Common.{◌≡◌, ◌++◌, length, ◌∙◌, length-append, rules}
+use Rattle.std.proofs.Common.{◌≡◌, ℕ, List, length, ap, ◌∙◌, arith, rules}
 use Rattle.digest.specs.Running.{hash_of}
-use Rattle.digest.proofs.Windows.{compressed-64}
+use Rattle.digest.specs.Sha256.{added, compressed, constants, extended, rounds}
+use Rattle.digest.proofs.Windows.{to_end-first, to_end-more, row_of}
 use Rattle.digest.proofs.block.compress.Goals as goal
 
+pub loop-k-init : goal.loop-k-init
+loop-k-init c =
+    let v = hash_of c.args.s in
+    let l : length c.load-words.result ≡ 16 = search rules in
+    record {
+      sixteen = l;
+      leads =
+          to_end-first v (hash_of c.first-t.result) c.load-words.result l c.first-t.ensures
+          ∙ ap (λ (ws : List ℕ). rounds v constants (extended 48 ws)) c.load-words.ensures;
+    }
+
+pub loop-k-preserved : goal.loop-k-preserved
+loop-k-preserved c =
+    let h = c.loop-k.invariant in
+    let i = c.loop-k.k-index in
+    let l : length c.turn-t.new.words ≡ 16 = search rules in
+    record {
+      sixteen = l;
+      leads =
+          to_end-more i (hash_of c.loop-k.t) (hash_of c.turn-t.result) c.loop-k.words c.turn-t.new.words h.sixteen l c.loop-k-test.true
+          (row_of i c.loop-k-test.true) c.turn-t.ensures.next c.turn-t.ensures.rounds
+          ∙ h.leads;
+    }
+
 pub returns : goal.returns
+unfolding compressed
 returns c =
-    let r1 = c.turn.result in
-    let r2 = c.turn-2.result in
-    let r3 = c.turn-3.result in
-    let l1 : length (r1.1 ++ r1.2) ≡ 16 = length-append r1.1 r1.2 ∙ search rules in
-    let l2 : length (r2.1 ++ r2.2) ≡ 16 = length-append r2.1 r2.2 ∙ search rules in
-    compressed-64 (hash_of c.args.s) c.args.block.now (c.load.result.0 ++ c.load.result.1) (r1.1 ++ r1.2) (r2.1 ++ r2.2) (r3.1 ++ r3.2)
-    l1 l2 c.load.ensures c.first-t.ensures c.turn.ensures.next c.turn.ensures.rounds
-    c.turn-2.ensures.next c.turn-2.ensures.rounds c.turn-3.ensures.next c.turn-3.ensures.rounds c.plus.ensures
+    let e : c.loop-k.k-index ≡ 3 = omega arith in
+    c.plus.ensures ∙ ap (added (hash_of c.args.s)) (rw e at c.loop-k.invariant.leads)

@@ -1,5 +1,5 @@
 use Rattle.std.proofs.Common.{rules}
-use Rattle.encoding.proofs.Digits.{low_byte}
+use Rattle.wire.proofs.Digits.{low_byte}
 use Rattle.encoding.proofs.leaf.write_count.Goals as goal
 
 pub returns : goal.returns

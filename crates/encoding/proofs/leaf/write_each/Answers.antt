@@ -15,8 +15,8 @@ pub loop-step-preserved : goal.loop-step-preserved
 loop-step-preserved c =
     let p = get_or c.args.steps.now c.loop-step.step-index [] in
     let n : big_endian p ≡ c.from_be_bytes.result = two p (c.told-steps c.loop-step.step-index c.loop-step-test.true) ∙ sym c.from_be_bytes.ensures in
-    wrote-more step (vec_items c.args.out.now) c.args.steps.now (vec_items c.loop-step.out) (vec_items c.write_u16.new.out) c.loop-step.step-index [] c.loop-step-test.true c.loop-step.invariant
-    (as_read (vec_items c.loop-step.out) (vec_items c.write_u16.new.out) c.from_be_bytes.result (big_endian p) c.in_ok-write_u16.ensures n)
+    wrote-more step (vec_items c.args.out.now) c.args.steps.now (vec_items c.loop-step.out) (vec_items c.write_number.new.out) c.loop-step.step-index [] c.loop-step-test.true c.loop-step.invariant
+    (as_read (vec_items c.loop-step.out) (vec_items c.write_number.new.out) c.from_be_bytes.result (big_endian p) c.in_ok-write_number.ensures n)
 
 pub returns : goal.returns
 returns c =

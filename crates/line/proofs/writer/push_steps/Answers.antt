@@ -1,18 +1,10 @@
-use Rattle.std.proofs.Common.{◌≡◌, ℕ, List, [], ◌∷◌, ◌++◌, length, vec_items, decimal, sym, refl, ap, ◌∙◌, subst, append_assoc, append-nil}
-use Rattle.std.specs.List.{AllByRecursion}
-use Rattle.std.proofs.ByRecursion.{All-from_get_or}
-use Rattle.std.proofs.lemmas.List.{nil_from_length}
+use Rattle.std.proofs.Common.{◌≡◌, ◌+◌, ℕ, List, [], ◌∷◌, ◌++◌, get_or, drop, vec_items, decimal, sym, ap, ◌∙◌, append_assoc, append-nil}
+use Rattle.std.proofs.lemmas.List.{at_drop_more, at_drop_all}
 use Rattle.wire.specs.Numbers.{big_endian}
 use Rattle.wire.specs.Leaves.{steps_of}
 use Rattle.wire.proofs.Numbers.{two}
 use Rattle.line.specs.Lines.{steps_from}
 use Rattle.line.proofs.writer.push_steps.Goals as goal
-
-abbrev Two : List ℕ → Type 0
-Two p = length p ≡ 2
-
-pub loop-step-init : goal.loop-step-init
-loop-step-init c = (refl, All-from_get_or Two c.args.steps.now [] c.told-steps)
 
 -- one step more
 more : (out marked after : List ℕ) (mark n : ℕ) (left : List (List ℕ)) (step : List ℕ) (rest : List (List ℕ)) → left ≡ step ∷ rest → big_endian step ≡ n → marked ≡ out ++ (mark ∷ []) → after ≡ marked ++ decimal n →
@@ -26,15 +18,14 @@ more out marked after mark n left step rest e b m a =
 
 pub loop-step-preserved : goal.loop-step-preserved
 loop-step-preserved c =
-    let e = c.in-Some.ensures.cases.0 in
-    let a = subst (λ (l : List (List ℕ)). AllByRecursion Two l) e c.loop-step.invariant.1 in
-    let n : big_endian c.in-Some.step.now ≡ c.from.result = two c.in-Some.step.now a.0 ∙ (sym c.from_be_bytes.ensures ∙ sym c.from.ensures) in (
-      more (vec_items c.loop-step.out) (vec_items c.push.new.self) (vec_items c.push_decimal.new.out) c.loop-step.mark c.from.result c.loop-step.left.now c.in-Some.step.now c.in-Some.rest.now e n
-          c.in_ok-push.ensures.items c.in_ok-push_decimal.ensures ∙ c.loop-step.invariant.0,
-      a.1,
-    )
+    let i = c.loop-step.step-index in
+    let step = get_or c.args.steps.now i [] in
+    let n : big_endian step ≡ c.from.result = two step (c.told-steps i c.loop-step-test.true) ∙ (sym c.from_be_bytes.ensures ∙ sym c.from.ensures) in
+    more (vec_items c.loop-step.out) (vec_items c.push.new.self) (vec_items c.push_decimal.new.out) c.loop-step.mark c.from.result (drop i c.args.steps.now) step (drop (i + 1) c.args.steps.now)
+    (at_drop_more (λ (l : List (List ℕ)). l) c.args.steps.now i [] c.loop-step-test.true) n c.in_ok-push.ensures.items c.in_ok-push_decimal.ensures
+    ∙ c.loop-step.invariant
 
 pub returns : goal.returns
 returns c =
-    let none = nil_from_length c.loop-step.left.now c.in_default.ensures.cases in
-    sym (append-nil (vec_items c.loop-step.out)) ∙ (ap (λ (l : List (List ℕ)). vec_items c.loop-step.out ++ steps_from c.loop-step.mark (steps_of l)) (sym none) ∙ c.loop-step.invariant.0)
+    let out = vec_items c.loop-step.out in
+    sym (append-nil out) ∙ (sym (at_drop_all (λ (l : List (List ℕ)). out ++ steps_from c.loop-step.mark (steps_of l)) c.args.steps.now c.loop-step.step-index c.loop-step-test.false) ∙ c.loop-step.invariant)

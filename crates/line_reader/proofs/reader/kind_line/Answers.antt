@@ -1,24 +1,19 @@
-use Rattle.std.proofs.Common.{sym}
-use Rattle.line.specs.declared.kind.Kind.TheVariants as kind
-use Rattle.line.proofs.Leaves.{no-kind-line, no_kind, one-kind}
+use Rattle.std.proofs.Common.{[], sym, subst, ◌∙◌, rules}
+use Rattle.line.proofs.Leaves.{no-kind-line, no_kind, one-kind, named-is, named-none}
+use Rattle.line_reader.specs.Finds.{Behind}
 use Rattle.line_reader.proofs.reader.kind_line.Goals as goal
 
-pub returns-in_default : goal.returns-in_default
-returns-in_default c = no-kind-line c.args.text.now c.in_default.ensures
+pub returns-in_err-line : goal.returns-in_err-line
+returns-in_err-line c =
+    let none = subst (λ r. Behind [] r c.args.text.now) c.in_err-line.ensures.ok_part c.split_line.ensures in
+    search (rules, no-kind-line c.args.text.now none)
 
-pub returns-then-same_text : goal.returns-then-same_text
-returns-then-same_text c = one-kind c.args.text.now c.in-Some.line.now c.in-Some.rest.now c.in-Some.ensures kind.Root (sym c.if-same_text.ensures)
-
-pub returns-then-same_text-2 : goal.returns-then-same_text-2
-returns-then-same_text-2 c = one-kind c.args.text.now c.in-Some.line.now c.in-Some.rest.now c.in-Some.ensures kind.Clock (sym c.if-same_text-2.ensures)
-
-pub returns-then-same_text-3 : goal.returns-then-same_text-3
-returns-then-same_text-3 c = one-kind c.args.text.now c.in-Some.line.now c.in-Some.rest.now c.in-Some.ensures kind.Index (sym c.if-same_text-3.ensures)
-
-pub returns-then-same_text-4 : goal.returns-then-same_text-4
-returns-then-same_text-4 c = one-kind c.args.text.now c.in-Some.line.now c.in-Some.rest.now c.in-Some.ensures kind.List (sym c.if-same_text-4.ensures)
+pub returns-in_err-kind : goal.returns-in_err-kind
+returns-in_err-kind c =
+    let b = subst (λ r. Behind [] r c.args.text.now) c.in_ok-line.ensures.ok_part c.split_line.ensures in
+    search (rules, no_kind c.args.text.now c.in_ok-line.line.now c.in_ok-line.rest.now b (named-none c.in_ok-line.line.now (sym c.named.ensures ∙ c.in_err-kind.ensures.ok_part)))
 
 pub returns : goal.returns
 returns c =
-    no_kind c.args.text.now c.in-Some.line.now c.in-Some.rest.now c.in-Some.ensures
-    (sym c.if-same_text.ensures) (sym c.if-same_text-2.ensures) (sym c.if-same_text-3.ensures) (sym c.if-same_text-4.ensures)
+    let b = subst (λ r. Behind [] r c.args.text.now) c.in_ok-line.ensures.ok_part c.split_line.ensures in
+    one-kind c.args.text.now c.in_ok-line.line.now c.in_ok-line.rest.now b c.in_ok-kind.kind (named-is c.in_ok-line.line.now c.in_ok-kind.kind (sym c.named.ensures ∙ c.in_ok-kind.ensures.ok_part))

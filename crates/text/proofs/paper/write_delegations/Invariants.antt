@@ -6,7 +6,4 @@ use Rattle.text.proofs.paper.write_delegations.Given as goal
 
 -- what is written and what is left make up the whole
 abbrev pub invariant-loop-delegation : goal.invariant-loop-delegation
-invariant-loop-delegation l = vec_items l.out ++ flat_map delegation_text (delegations_of l.left) ≡ vec_items l.initial.out ++ flat_map delegation_text (delegations_of l.delegations)
-
-abbrev pub decreases-loop-delegation : goal.decreases-loop-delegation
-decreases-loop-delegation l = l.left.count
+invariant-loop-delegation l = vec_items l.out ++ flat_map delegation_text (delegations_of l.delegation-iterator) ≡ vec_items l.initial.out ++ flat_map delegation_text (delegations_of l.delegations)

@@ -6,7 +6,4 @@ use Rattle.text.proofs.paper.write_files.Given as goal
 
 -- what is written and what is left make up the whole
 abbrev pub invariant-loop-file : goal.invariant-loop-file
-invariant-loop-file l = vec_items l.out ++ flat_map file_text (files_of l.left) ≡ vec_items l.initial.out ++ flat_map file_text (files_of l.files)
-
-abbrev pub decreases-loop-file : goal.decreases-loop-file
-decreases-loop-file l = l.left.count
+invariant-loop-file l = vec_items l.out ++ flat_map file_text (files_of l.file-iterator) ≡ vec_items l.initial.out ++ flat_map file_text (files_of l.files)

@@ -1,6 +1,6 @@
 use Rattle.std.proofs.Common.{[], vec_items}
 use Rattle.text.specs.Texts.{key_text}
-use Rattle.text.proofs.Writes.{wrote-more, wrote-all}
+use Rattle.line.proofs.Writes.{wrote-more, wrote-all}
 use Rattle.text.proofs.paper.write_keys.Goals as goal
 
 pub loop-key-preserved : goal.loop-key-preserved

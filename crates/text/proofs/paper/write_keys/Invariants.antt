@@ -1,6 +1,6 @@
 use Rattle.std.proofs.Common.{vec_items}
 use Rattle.text.specs.Texts.{key_text}
-use Rattle.text.proofs.Writes.{Sofar}
+use Rattle.line.proofs.Writes.{Sofar}
 use Rattle.text.proofs.paper.write_keys.Given as goal
 
 abbrev pub invariant-loop-key : goal.invariant-loop-key

@@ -6,7 +6,4 @@ use Rattle.text.proofs.paper.write_metas.Given as goal
 
 -- what is written and what is left make up the whole
 abbrev pub invariant-loop-meta : goal.invariant-loop-meta
-invariant-loop-meta l = vec_items l.out ++ flat_map meta_text (metas_of l.left) ≡ vec_items l.initial.out ++ flat_map meta_text (metas_of l.metas)
-
-abbrev pub decreases-loop-meta : goal.decreases-loop-meta
-decreases-loop-meta l = l.left.count
+invariant-loop-meta l = vec_items l.out ++ flat_map meta_text (metas_of l.meta-iterator) ≡ vec_items l.initial.out ++ flat_map meta_text (metas_of l.metas)

@@ -1,11 +1,13 @@
-use Rattle.std.proofs.Common.{rules}
+use Rattle.std.proofs.Common.{◌≡◌, nat_eq, ◌&&◌, ◌∙◌, refl, Bool, true, false}
 use Rattle.model.specs.Lists.{all}
+use Rattle.wire.proofs.Comparing.{lists-same}
 use Rattle.wire.proofs.quorum.same_quorum.Goals as goal
 
-pub returns-then-a-b : goal.returns-then-a-b
-unfolding all
-returns-then-a-b c = search rules
+both : (a b : Bool) → (a && b) ≡ (a && (b && true))
+both true true = refl
+both true false = refl
+both false b = refl
 
-pub returns-else-a-b : goal.returns-else-a-b
+pub returns : goal.returns
 unfolding all
-returns-else-a-b c = search rules
+returns c = c.eq.ensures ∙ (λ i. (nat_eq c.args.a.threshold c.args.b.threshold) && lists-same c.args.a.keys.now c.args.b.keys.now _ refl i) ∙ both _ _

@@ -26,4 +26,4 @@ returns-in_err-push c =
 
 pub returns : goal.returns
 returns c =
-    notes-push c.args.self.now c.place_for.new.self (quorum_of c.args.backing.quorum) c.in_ok-at.at c.args.day c.args.paper.now c.args.backing.signatures.now c.in_ok-entry.entry _ c.in_ok-at.ensures c.in_ok-entry.ensures c.in_ok-push.ensures.items
+    notes-push c.args.self.now c.place_for.new.self (quorum_of c.args.backing.quorum) c.in_ok-at.at c.args.taken.day c.args.taken.paper.now c.args.backing.signatures.now c.in_ok-entry.entry _ c.in_ok-at.ensures c.in_ok-entry.ensures c.in_ok-push.ensures.items

@@ -46,6 +46,6 @@ pub returns : goal.returns
 returns c =
     let l = c.place_for-2.new.self in
     let both = placed-both c.args.self.now c.place_for.new.self l (quorum_of c.args.old.quorum) (quorum_of c.args.own.quorum) c.in_ok-place.place c.in_ok-other.other c.in_ok-place.ensures c.in_ok-other.ensures in
-    notes-two c.args.self.now l (quorum_of c.args.old.quorum) (quorum_of c.args.own.quorum) c.in_ok-place.place c.in_ok-other.other c.args.day c.args.paper.now c.args.old.signatures.now c.args.own.signatures.now
+    notes-two c.args.self.now l (quorum_of c.args.old.quorum) (quorum_of c.args.own.quorum) c.in_ok-place.place c.in_ok-other.other c.args.taken.day c.args.taken.paper.now c.args.old.signatures.now c.args.own.signatures.now
     c.in_ok-first.first c.in_ok-second.second _ both c.in_ok-other.ensures.is-quorum c.in_ok-first.ensures c.in_ok-second.ensures
     (c.push_reserved-2.ensures.items ∙ ap (λ (x : List Entry). x ++ c.in_ok-second.second ∷ []) (c.push_reserved.ensures.items ∙ ap (λ (x : List Entry). x ++ c.in_ok-first.first ∷ []) c.reserve.ensures.items))

@@ -1,2 +1,0 @@
-//! Formats over any type of error, and their laws.
-#![tactic(auto)]

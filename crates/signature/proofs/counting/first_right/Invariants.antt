@@ -1,9 +1,0 @@
-use Rattle.std.proofs.Common.{◌≡◌, take, None}
-use Rattle.model.specs.Lists.{first}
-use Rattle.signature.specs.Signatures.{right_of}
-use Rattle.signature.specs.Views.{signature_of}
-use Rattle.signature.proofs.counting.first_right.Given as goal
-
--- none so far
-abbrev pub invariant-loop-i : goal.invariant-loop-i
-invariant-loop-i g l = first (λ b. right_of g.V.Verifier.accepts l.message l.key (signature_of b)) (take l.i l.signatures.items.now) ≡ None
