@@ -15,9 +15,6 @@ pub record Ran (whole left : List ℕ) (said : List Answer) (today : ℕ) : Type
   pub says : (h : Snapshot → Digest) (r : Root) → map answer_of said ≡ answers h done (fresh r)
   pub day : (h : Snapshot → Digest) (r : Root) → (run h done (fresh r)).today ≡ today
 
-pub ran-start : (bs : List ℕ) → Ran bs bs [] 0
-ran-start bs = record { done = []; reads = λ es f s. s; says = λ h r. refl; day = λ h r. refl }
-
 answers-more : (h : Snapshot → Digest) (es : List Event) (e : Event) (d : model.Device) → answers h (es ++ (e ∷ [])) d ≡ answers h es d ++ ((step h e (run h es d)).answer ∷ [])
 answers-more h [] e d = refl
 answers-more h (x ∷ xs) e d = ap (λ (l : List model.Answer). (step h x d).answer ∷ l) (answers-more h xs e (step h x d).device)

@@ -1,5 +1,5 @@
 -- What a loop that writes item by item keeps. Assumes nothing.
-use Rattle.std.proofs.Common.{◌≡◌, ℕ, ◌+◌, ◌<◌, ◌≤◌, List, [], ◌∷◌, ◌++◌, map, length, get_or, take, IfOk, Ok, Err, Result, sym, refl, ap, ◌∙◌, append_assoc, append-nil}
+use Rattle.std.proofs.Common.{◌≡◌, ℕ, ◌+◌, ◌<◌, ◌≤◌, List, [], ◌∷◌, ◌++◌, map, length, get_or, take, sym, refl, ap, ◌∙◌, append_assoc, append-nil}
 use Rattle.std.specs.List.{flat_map}
 use Rattle.std.proofs.lemmas.List.{flat_map_more, take_more, take_all}
 
@@ -27,8 +27,3 @@ module _ {X : Type 0} (f : X → List ℕ) (out : List ℕ) where
 pub joined-map : {X Y : Type 0} (f : Y → List ℕ) (g : X → Y) (xs : List X) → flat_map (λ x. f (g x)) xs ≡ flat_map f (map g xs)
 joined-map f g [] = refl
 joined-map f g (x ∷ xs) = ap (λ l. f (g x) ++ l) (joined-map f g xs)
-
--- what is written last stands behind what was written before it, and both make up the whole
-pub wrote-behind : {A E : Type 0} (r : Result A E) (exit mid before a b whole : List ℕ) → mid ≡ before ++ a → whole ≡ a ++ b → IfOk r (λ _. exit ≡ mid ++ b) → IfOk r (λ _. exit ≡ before ++ whole)
-wrote-behind (Ok x) exit mid before a b whole m w h = h ∙ (ap (λ (l : List ℕ). l ++ b) m ∙ (append_assoc before a b ∙ ap (λ (l : List ℕ). before ++ l) (sym w)))
-wrote-behind (Err e) exit mid before a b whole m w h = tt

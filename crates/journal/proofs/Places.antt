@@ -9,8 +9,7 @@ use Rattle.std.proofs.lemmas.Bool.{ltb-false, eqb-true, ltb-true, leb-true, leb-
 use Rattle.model.specs.Lists.{all, any, count}
 use Rattle.model.specs.Metadata.{Quorum}
 use Rattle.model.specs.Same.{same_list, same_quorums}
-use Rattle.model.proofs.Same.{quorums, bytes}
-use Rattle.journal.specs.Marks.{mark_of}
+use Rattle.model.proofs.Same.{quorums}
 use Rattle.journal.specs.Notes.{Note, stands_in, under_in}
 use Rattle.journal.specs.Table.{first_at, quorum_at, blank, is_first, all_first, note_of, row_of, rows_of}
 use Rattle.journal.specs.declared.row.Row.{Row}
@@ -74,14 +73,6 @@ stands-places rows q paper (e ∷ es) h =
     ap (λ (t : Bool). (t && same_list paper (vec_items e.paper)) || any (λ (x : Entry). eqb (first_at q rows) x.at && same_list paper (vec_items x.paper)) es) (same_place rows q e.at b.0)
     ∙ ap (λ (t : Bool). t || any (λ (x : Entry). eqb (first_at q rows) x.at && same_list paper (vec_items x.paper)) es) (two-tests (same_quorums q (quorum_at rows e.at)) (same_list paper (vec_items e.paper)))
     ∙ ap (λ (t : Bool). all (same_quorums q (quorum_at rows e.at) ∷ same_list paper (vec_items e.paper) ∷ []) || t) (stands-places rows q paper es b.1)
-
--- papers with other marks are others
-pub other-mark : (a b : List ℕ) (m n : ℕ) → eqb n (mark_of b) ≡ true → m ≡ mark_of a → ¬ (n ≡ m) → same_list a b ≡ false
-other-mark a b m n h e apart = at (same_list a b) refl
-  where
-    at : (t : Bool) → same_list a b ≡ t → same_list a b ≡ false
-    at false s = s
-    at true s = absurd (apart (eqb-true n (mark_of b) h ∙ sym (ap mark_of (bytes.equal a b (subst (λ (t : Bool). T t) (sym s) tt))) ∙ sym e))
 
 pub first-le : (q : Quorum) (rs : List Row) → first_at q (rows_of rs) ≤ length rs
 first-le q [] = omega arith

@@ -1,10 +1,10 @@
 -- Steps between slashes, as a loop takes them apart. Assumes nothing.
-use Rattle.std.proofs.Common.{◌≡◌, ℕ, ◌<◌, ◌≤◌, Bool, true, false, cond, eqb, List, [], ◌∷◌, ◌++◌, length, decimal, sym, refl, ap, ◌∙◌, subst, append_assoc, append-nil, arith}
+use Rattle.std.proofs.Common.{◌≡◌, ℕ, ◌<◌, Bool, true, false, cond, eqb, List, [], ◌∷◌, ◌++◌, length, decimal, sym, refl, ap, ◌∙◌, subst, append_assoc, append-nil, arith}
 use Rattle.std.specs.Str.Parse.{AllDigits}
 use Rattle.std.specs.List.{AllByRecursion}
 use Rattle.std.proofs.lemmas.Fmt.{decimal_is_IsNumeral, decimal_injective}
 use Rattle.std.proofs.ByRecursion.{All-append}
-use Rattle.std.proofs.lemmas.List.{length-append, nil_from_length}
+use Rattle.std.proofs.lemmas.List.{length-append}
 use Rattle.std.proofs.lemmas.Str.Parse.{digit_from_value}
 use Rattle.std.proofs.lemmas.Bool.{ne_eqb}
 use Rattle.model.specs.Metadata.{Steps}
@@ -50,9 +50,6 @@ pub record Walk (value left : List ℕ) (mark : ℕ) (path : Steps) : Type 0 whe
   pub only : (ss : Steps) → FewSteps ss → value ≡ steps_from 32 ss → (more : Steps) × (ss ≡ path ++ more) × (left ≡ steps_from mark more)
   pub small : FewSteps path
 
-pub walk_start : (value : List ℕ) (path : Steps) → path ≡ [] → Walk value value 32 path
-walk_start value path e = subst (Walk value value 32) (sym e) (record { to = λ ss h. sym h; only = λ ss f h. (ss, refl, h); small = (omega arith, tt) })
-
 -- what one more step has to be
 pub record Next (mark : ℕ) (path : Steps) (first : ℕ) (rest : List ℕ) (ss : Steps) : Type 0 where
   pub step : ℕ
@@ -65,9 +62,6 @@ pub record Next (mark : ℕ) (path : Steps) (first : ℕ) (rest : List ℕ) (ss 
   pub room : length path < 8
 
 module _ (value left : List ℕ) (mark : ℕ) (path : Steps) (w : Walk value left mark path) where
-  pub walk_end : length left ≡ 0 → (value ≡ steps_from 32 path) × FewSteps path
-  walk_end e = (w.to [] (sym (nil_from_length left e)) ∙ ap (steps_from 32) (append-nil path), w.small)
-
   module _ (first : ℕ) (rest : List ℕ) (e : left ≡ first ∷ rest) where
     next : (ss : Steps) → FewSteps ss → value ≡ steps_from 32 ss → Next mark path first rest ss
     next ss f h = let o = w.only ss f h in at o.0 o.1 o.2
@@ -96,9 +90,6 @@ module _ (value left : List ℕ) (mark : ℕ) (path : Steps) (w : Walk value lef
 
     pub walk-digits : ((n : ℕ) → n < 65536 → step_text rest ≡ decimal n → ⊥) → (ss : Steps) → FewSteps ss → value ≡ steps_from 32 ss → ⊥
     walk-digits none ss f h = let k = next ss f h in none k.step k.small k.digits
-
-    pub walk-full : 8 ≤ length path → (ss : Steps) → FewSteps ss → value ≡ steps_from 32 ss → ⊥
-    walk-full full ss f h = omega (arith, (next ss f h).room)
 
     pub walk_more : (n : ℕ) (longer : Steps) → first ≡ mark → step_text rest ≡ decimal n → n < 65536 → length path < 8 → longer ≡ path ++ (n ∷ []) → Walk value (behind_step rest) 47 longer
     walk_more n longer m d small room l = subst (Walk value (behind_step rest) 47) (sym l) (record {

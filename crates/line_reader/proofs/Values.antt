@@ -1,5 +1,5 @@
 -- Decimal and hexadecimal digits, as the code takes them apart. Assumes nothing.
-use Rattle.std.proofs.Common.{◌≡◌, ℕ, zero, suc, ◌+◌, ◌*◌, ◌/◌, ◌%◌, ◌^◌, ◌<◌, ◌≤◌, Bool, true, false, cond, not, eqb, List, [], ◌∷◌, ◌++◌, map, length, get_or, take, drop, set, IsUtf8, decimal, Ok, Err, Result, sym, refl, ap, ◌∙◌, subst, true≢false, arith}
+use Rattle.std.proofs.Common.{◌≡◌, ℕ, zero, suc, ◌+◌, ◌*◌, ◌^◌, ◌<◌, ◌≤◌, Bool, true, false, cond, not, eqb, List, [], ◌∷◌, ◌++◌, map, length, get_or, take, drop, set, IsUtf8, decimal, Ok, Err, Result, sym, refl, ap, ◌∙◌, subst, true≢false, arith}
 use Rattle.std.specs.Str.Parse.{AllDigits, ParsesUnsigned, digits_value, without_leading_plus}
 use Rattle.std.specs.Simd.{first_chunks}
 use Rattle.std.specs.List.{AllByRecursion}
@@ -12,7 +12,7 @@ use Rattle.std.proofs.lemmas.Str.{IsUtf8-from_ascii}
 use Rattle.std.specs.Result.{OkIff, result_ok}
 use Rattle.wire.proofs.Laws.{not-ok}
 use Rattle.line_reader.specs.Finds.{Found, well_begun}
-use Rattle.line.specs.Lines.{digit_of, hex_of_byte, hex_of}
+use Rattle.line.specs.Lines.{hex_of_byte, hex_of}
 
 -- DECIMAL
 
@@ -75,14 +75,6 @@ narrowed ds n (Err e) d l p = λ x small w. p (omega (arith, small, decimal_inje
 
 -- HEXADECIMAL
 
-pub hex-byte-is : (a b high low : ℕ) → a ∷ [] ≡ digit_of high ∷ [] → b ∷ [] ≡ digit_of low ∷ [] → low < 16 → a ∷ b ∷ [] ≡ hex_of_byte (high * 16 + low)
-hex-byte-is a b high low p q l =
-    let i : (high * 16 + low) / 16 ≡ high = omega (arith, l) in
-    let j : (high * 16 + low) % 16 ≡ low = omega (arith, l) in
-    let u : a ≡ digit_of high = cc in
-    let v : b ≡ digit_of low = cc in
-    (λ k. (u ∙ ap digit_of (sym i)) k ∷ ((v ∙ ap digit_of (sym j)) k ∷ []))
-
 pub length-hex : (bs : List ℕ) → length (hex_of bs) ≡ length bs * 2
 length-hex [] = refl
 length-hex (b ∷ bs) = omega (arith, length-hex bs)
@@ -102,12 +94,6 @@ hex-pairs (b ∷ bs) (c ∷ d ∷ ds) l h =
     let one : hex_of_byte b ≡ c ∷ d ∷ [] = cc in
     let more : map hex_of_byte bs ≡ first_chunks 2 (length bs) ds = cc in
     (λ i. sym one i ++ hex-pairs bs ds (omega arith) more i)
-
-pub both_of : (xs : List ℕ) → length xs ≡ 2 → xs ≡ get_or xs 0 0 ∷ get_or xs 1 0 ∷ []
-both_of [] h = absurd (omega arith)
-both_of (a ∷ []) h = absurd (omega arith)
-both_of (a ∷ b ∷ []) h = refl
-both_of (a ∷ b ∷ c ∷ xs) h = absurd (omega arith)
 
 -- one byte more
 pub hex-more : (bytes : List ℕ) (pairs : List (List ℕ)) (i b : ℕ) → i < length bytes → i < length pairs → map hex_of_byte (take i bytes) ≡ take i pairs → get_or pairs i [] ≡ hex_of_byte b →

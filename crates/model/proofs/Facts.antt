@@ -1,5 +1,5 @@
 -- Tests and what they decide. Assumes nothing.
-use Rattle.std.proofs.Common.{◌≡◌, ℕ, ◌<◌, ◌≤◌, Bool, true, false, not, ◌&&◌, ◌||◌, T, eqb, ltb, leb, ◌⊎◌, List, [], ◌∷◌, Some, None, sym, refl, subst, inl, inr, arith, le→leb, eqb→eq, ltb→lt, lt→ltb, leb→le, T_not}
+use Rattle.std.proofs.Common.{◌≡◌, ℕ, ◌≤◌, Bool, true, false, not, ◌&&◌, ◌||◌, T, eqb, leb, ◌⊎◌, List, [], ◌∷◌, Some, None, sym, refl, subst, inl, inr, arith, le→leb, eqb→eq, leb→le, T_not}
 use lib.Dec.{eqb_refl, not_T}
 use Rattle.model.specs.Lists.{all}
 
@@ -72,9 +72,6 @@ decides-eq-sym a b = (λ t. sym (eqb→eq a b t), λ e. subst (λ (x : ℕ). T (
 
 pub decides-le : (a b : ℕ) → Decides (leb a b) (a ≤ b)
 decides-le a b = (leb→le a b, le→leb a b)
-
-pub decides-lt : (a b : ℕ) → Decides (ltb a b) (a < b)
-decides-lt a b = (ltb→lt a b, lt→ltb a b)
 
 pub decides_not : {P : Type 0} (b : Bool) → Decides b P → Decides (not b) (¬ P)
 decides_not b d = (λ t p. T_not b t (d.1 p), λ n. not_T b (λ t. n (d.0 t)))

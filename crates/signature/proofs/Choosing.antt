@@ -23,13 +23,6 @@ module _ (accepts : Accepts) (m : List ℕ) (ss : List Signature) where
   firsts [] = []
   firsts (k ∷ ks) = option_to_list (first_of k) ++ firsts ks
 
-  pub firsts-once : (k : Key) (later : List Key) → firsts (once (k ∷ later)) ≡ option_to_list (cond (is_in k later) None (first_of k)) ++ firsts (once later)
-  firsts-once k later = at (is_in k later)
-    where
-      at : (b : Bool) → firsts (cond b (once later) (k ∷ once later)) ≡ option_to_list (cond b None (first_of k)) ++ firsts (once later)
-      at true = refl
-      at false = refl
-
   -- what is found is of the key asked for
   found-key : (k : Key) (s : Signature) → first_of k ≡ Some s → k ≡ s.key
   found-key k s e = bytes.equal k s.key (and_l (same_list k s.key) (is_right accepts m s) (first_found (right_of accepts m k) ss s e).1)

@@ -1,5 +1,5 @@
 -- The law of a chain, and what a loop that reads one keeps. Assumes nothing.
-use Rattle.std.proofs.Common.{◌≡◌, ℕ, zero, suc, ◌+◌, ◌-◌, ◌<◌, ◌≤◌, List, [], ◌∷◌, ◌++◌, length, Some, None, Ok, Err, Option, Result, sym, refl, ap, ◌∙◌, subst, append_assoc, append-nil, arith}
+use Rattle.std.proofs.Common.{◌≡◌, ℕ, zero, suc, ◌+◌, ◌-◌, ◌<◌, List, [], ◌∷◌, ◌++◌, length, Some, None, Ok, Err, Option, Result, sym, refl, ap, ◌∙◌, subst, append_assoc, arith}
 use Rattle.std.specs.List.{flat_map}
 use Rattle.std.proofs.lemmas.List.{flat_map_more}
 use Rattle.wire.specs.Formats.{Bytes}
@@ -64,13 +64,6 @@ module _ {A K : Type 0} (item : Option K → FormatOf Bad A) (key : A → K) whe
       pub is_read : extended done (Rest last (n - i) rest) ≡ Rest None n text
       pub is-written : after ≡ before ++ flat_map write done
 
-    pub chain-start : Sofar text before None 0
-    chain-start = record { done = []; is_read = let e : n - 0 ≡ n = omega arith in ap (λ m. extended [] (Rest None m text)) e ∙ whole (Rest None n text); is-written = sym (append-nil before) }
-      where
-        whole : (r : Result (List A × List ℕ) Bad) → extended [] r ≡ r
-        whole (Ok q) = refl
-        whole (Err e) = refl
-
     one_left : (xs : List A) (last : Option K) (i : ℕ) (bs : List ℕ) → i < n → extended xs (Rest last (n - i) bs) ≡ extended xs (and_then ((item last).read bs) (next (n - (i + 1))))
     one_left xs last i bs lt = let one : n - i ≡ suc (n - (i + 1)) = omega arith in ap (λ m. extended xs (Rest last m bs)) one
 
@@ -85,11 +78,6 @@ module _ {A K : Type 0} (item : Option K → FormatOf Bad A) (key : A → K) whe
 
       pub chain-bad : (b : Bad) → i < n → (item last).read rest ≡ Err b → Rest None n text ≡ Err b
       chain-bad b lt e = sym s.is_read ∙ one_left s.done last i rest lt ∙ ap (λ r. extended s.done (and_then r (next (n - (i + 1))))) e
-
-      pub chain-done : n ≤ i → (xs : List A) × (Rest None n text ≡ Ok (xs, rest)) × (after ≡ before ++ flat_map write xs)
-      chain-done le =
-          let none : n - i ≡ 0 = omega arith in
-          (s.done, sym s.is_read ∙ ap (λ m. extended s.done (Rest last m rest)) none ∙ ap (λ l. Ok (l, rest)) (append-nil s.done), s.is-written)
 
   -- as many items as were asked for
   pub chain_length : (n : ℕ) (last : Option K) (bs : List ℕ) (y : List A × List ℕ) → Rest last n bs ≡ Ok y → length y.0 ≡ n

@@ -1,14 +1,12 @@
 -- Numbers as bytes, for every width. Assumes nothing.
-use Rattle.std.proofs.Common.{◌≡◌, ℕ, zero, suc, ◌+◌, ◌*◌, ◌/◌, ◌%◌, ◌^◌, ◌<◌, ◌≤◌, Bool, cond, List, [], ◌∷◌, ◌++◌, length, get_or, take, drop, Ok, Err, Result, sym, refl, ap, ◌∙◌, subst, div-lt_iff_lt-mul, pow-suc, add-one, arith}
+use Rattle.std.proofs.Common.{◌≡◌, ℕ, zero, suc, ◌+◌, ◌*◌, ◌/◌, ◌%◌, ◌^◌, ◌<◌, ◌≤◌, List, [], ◌∷◌, ◌++◌, length, get_or, take, sym, refl, ap, ◌∙◌, subst, div-lt_iff_lt-mul, pow-suc, add-one, arith}
 use native.Mathlib.Nat.{pow-zero}
 use Rattle.std.specs.Int.Digits.{number_from_digits as number_in}
-use Rattle.std.proofs.lemmas.List.{take_all, take_more, length-take-le, length-append}
+use Rattle.std.proofs.lemmas.List.{take_all, take_more, length-append}
 use Rattle.std.proofs.ByRecursion.{All-get_or}
 use Rattle.std.proofs.lemmas.Int.Digits.{number_more, number_push, number_lt}
-use Rattle.std.proofs.lemmas.Bool.{le-ltb}
-use Rattle.model.specs.declared.fault.Fault.{Fault}
-use Rattle.model.specs.declared.fault.Fault.TheVariants.{Malformed, OutOfRange}
-use Rattle.wire.specs.Formats.{Lawful, Bytes, and_then}
+use Rattle.model.specs.declared.fault.Fault.TheVariants.{OutOfRange}
+use Rattle.wire.specs.Formats.{Lawful, Bytes}
 use Rattle.wire.specs.Numbers.{big_endian, bytes_of, number, version}
 use Rattle.wire.proofs.Laws.{lawful-recoded, lawful-only}
 
@@ -42,15 +40,6 @@ eight xs h = omega (
   number_more 256 xs 6 (omega (arith, h)),
   number_more 256 xs 7 (omega (arith, h)),
 )
-
--- a number is read from the first n bytes; f: what it is in terms of the bytes
-pub number_read : (n : ℕ) (f : List ℕ → ℕ) → ((xs : List ℕ) → length xs ≡ n → big_endian xs ≡ f xs) →
-    (bs head rest : List ℕ) (x : ℕ) → (head ≡ take n bs) × (rest ≡ drop n bs) × (length rest + n ≡ length bs) → x ≡ f head → (number n).read bs ≡ Ok (x, rest)
-number_read n f value bs head rest x cut e =
-    let long : n ≤ length bs = omega (arith, cut.2) in
-    let front : List ℕ × List ℕ → Result (ℕ × List ℕ) Fault = λ p. Ok (big_endian p.0, p.1) in
-    let same : big_endian (take n bs) ≡ x = ap big_endian (sym cut.0) ∙ (value head (ap length cut.0 ∙ length-take-le n bs long) ∙ sym e) in
-    ap (λ (b : Bool). and_then (cond b (Err Malformed) (Ok (take n bs, drop n bs))) front) (le-ltb (length bs) n long) ∙ (λ i. Ok (same i, sym cut.1 i))
 
 -- THE LAWS, FOR EVERY WIDTH
 

@@ -133,14 +133,6 @@ blocks-read w key below (suc n) last bs y h =
     let long : length i.0.1 ≡ length bs - w = ap length rest ∙ length-drop w bs in
     (omega (arith, suc-mul n w), ap (λ (p : List (List ℕ) × List ℕ). p.0) (sym (same_ok j.2)) ∙ (λ k. first k ∷ more.1 k) ∙ ap (λ l. take w bs ∷ first_chunks w n l) rest)
 
--- where any item may follow any other, the one before does not matter
-pub any_order : {A K : Type 0} (f : Format A) (key : A → K) (p q : Option K) (n : ℕ) (bs : List ℕ) → read_rising f key (λ _ _. true) p n bs ≡ read_rising f key (λ _ _. true) q n bs
-any_order f key p q zero bs = refl
-any_order f key None None (suc n) bs = refl
-any_order f key None (Some b) (suc n) bs = refl
-any_order f key (Some a) None (suc n) bs = refl
-any_order f key (Some a) (Some b) (suc n) bs = refl
-
 -- one item more, or none
 few : {A : Type 0} (n : ℕ) (more : List ℕ → List A) → ((bs : List ℕ) → length (more bs) ≤ n) → (r : Result (A × List ℕ) Fault) → length (if_read [] (λ p. p.0 ∷ more p.1) r) ≤ suc n
 few n more h (Ok p) = omega (arith, h p.1)
@@ -150,6 +142,3 @@ few n more h (Err e) = omega arith
 pub items_few : {A : Type 0} (f : Format A) (n : ℕ) (bs : List ℕ) → length (items f n bs) ≤ n
 items_few f zero bs = omega arith
 items_few f (suc n) bs = few n (items f n) (items_few f n) (f.read bs)
-
-pub items-first : {A : Type 0} (f : Format A) (n : ℕ) (bs : List ℕ) → 0 < n → items f n bs ≡ if_read [] (λ p. p.0 ∷ items f (n - 1) p.1) (f.read bs)
-items-first f n bs h = let e : n ≡ suc (n - 1) = omega arith in ap (λ m. items f m bs) e

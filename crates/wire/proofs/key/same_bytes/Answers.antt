@@ -1,5 +1,0 @@
-use Rattle.wire.proofs.Comparing.{bytes_same}
-use Rattle.wire.proofs.key.same_bytes.Goals as goal
-
-pub returns : goal.returns
-returns c = bytes_same c.args.a.now c.args.b.now c.eq.result c.eq.ensures
