@@ -3,7 +3,7 @@
 
 use anyhow::anyhow;
 use device_next::state::Device;
-use device_next::stop::Stop;
+use device_next::stop::answer_to;
 use model::answer::{Answer, Line};
 use running::run::run;
 use signature::stand_in::StandIn;
@@ -33,10 +33,9 @@ fn print(rt: &HostRuntime, answer: Answer) -> anyhow::Result<()> {
 /// Prints an answer for the first root, and for each item.
 fn serve(rt: &HostRuntime, root: &[u8], stream: &[u8]) -> anyhow::Result<()> {
     let heap = rt.alloc();
-    let mut device = match Device::new(heap, root) {
+    let mut device = match answer_to(Device::new(heap, root))? {
         Ok(device) => device,
-        Err(Stop::Refused(fault)) => return print(rt, Err(fault)),
-        Err(Stop::Memory(error)) => return Err(error.into()),
+        Err(fault) => return print(rt, Err(fault)),
     };
     print(rt, Ok(()))?;
     for answer in &run(heap, &StandIn, &mut device, stream)? {

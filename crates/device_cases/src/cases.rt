@@ -1,7 +1,7 @@
 //! The cases.
 use crate::papers::{FIRST, KEY, Paper, SECOND, bytes_of};
 use device_next::state::Device;
-use device_next::stop::{Stop, answer_to as told};
+use device_next::stop::answer_to as told;
 use model::answer::Answer;
 use signature::part::read_signatures;
 use signature::stand_in::{StandIn, sign_stand_in};
@@ -21,6 +21,7 @@ enum Event<'a> {
 /// An event, with the answer to it, 0 or the number of a fault, and the version of the timestamp that is then kept, or 0.
 type Case<'a> = (&'a str, Event<'a>, u8, u32);
 
+/// The tables have numbers, as users know them, so that a row stays one line.
 fn number_of(answer: Answer) -> u8 {
     match answer {
         Ok(()) => 0,
@@ -86,10 +87,9 @@ fn try_all(
 /// A box whose first root has the version 1, and what comes to it.
 fn run(rt: &impl Abort, heap: Global, cases: &[Case<'_>]) -> Result<(), Fail> {
     let root = bytes_of(heap, Paper::Root(1, FIRST, FIRST))?;
-    match Device::new(heap, &root) {
+    match told(Device::new(heap, &root))? {
         Ok(mut device) => try_all(rt, heap, &mut device, cases),
-        Err(Stop::Refused(_)) => Err(Fail::new("the first root is refused")),
-        Err(Stop::Memory(error)) => Err(error.into()),
+        Err(_) => Err(Fail::new("the first root is refused")),
     }
 }
 

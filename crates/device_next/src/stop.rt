@@ -3,7 +3,6 @@ ghost use Rattle.std.specs.Prelude.{◌≡◌, Ok as Gives, IsErr};
 ghost use Rattle.device_next.specs.declared.stop.Stop.TheVariants.{Memory as EndsMemory, Refused as Refuses};
 ghost use Rattle.device_next.specs.Stops.{MatchStop};
 
-use model::answer::Answer;
 use model::fault::Fault;
 use std::alloc::AllocError;
 
@@ -30,12 +29,12 @@ impl From<Fault> for Stop {
     }
 }
 
-/// The answer to an offer, if there was memory for one.
-pub fn answer_to(outcome: Result<(), Stop>) -> Result<Answer, AllocError>
+/// What came of an offer, or of a first root, if there was memory to judge it.
+pub fn answer_to<T>(outcome: Result<T, Stop>) -> Result<Result<T, Fault>, AllocError>
     ensures { MatchStop outcome (λ a. result ≡ Gives a) (IsErr result) }
 {
     match outcome {
-        Ok(()) => Ok(Ok(())),
+        Ok(value) => Ok(Ok(value)),
         Err(Stop::Refused(fault)) => Ok(Err(fault)),
         Err(Stop::Memory(error)) => Err(error),
     }

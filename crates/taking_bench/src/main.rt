@@ -3,7 +3,7 @@
 
 use anyhow::anyhow;
 use device_next::state::Device;
-use device_next::stop::Stop;
+use device_next::stop::answer_to;
 use encoding_papers::paper::paper_bytes;
 use metadata::paper::Metadata;
 use metadata::root::Root;
@@ -90,10 +90,9 @@ fn offer(
     let start = Instant::now(rt)?;
     let answer = device.offer(rt.alloc(), &StandIn, offer);
     let took = start.elapsed(rt)?.as_nanos();
-    match answer {
+    match answer_to(answer)? {
         Ok(()) => Ok(took),
-        Err(Stop::Refused(_)) => Err(anyhow!("an offer is refused")),
-        Err(Stop::Memory(error)) => Err(error.into()),
+        Err(_) => Err(anyhow!("an offer is refused")),
     }
 }
 
@@ -127,10 +126,8 @@ fn measure(rt: &HostRuntime, device: &mut Device, from: u32, to: u32) -> anyhow:
 
 fn measure_both(rt: &HostRuntime, many: u32) -> anyhow::Result<()> {
     let heap = rt.alloc();
-    let mut device = match Device::new(heap, &root_paper(heap, 1)?) {
-        Ok(device) => device,
-        Err(Stop::Refused(_)) => return Err(anyhow!("the first root is refused")),
-        Err(Stop::Memory(error)) => return Err(error.into()),
+    let Ok(mut device) = answer_to(Device::new(heap, &root_paper(heap, 1)?))? else {
+        return Err(anyhow!("the first root is refused"));
     };
     measure(rt, &mut device, 1, 100)?;
     measure(rt, &mut device, 100, many)
