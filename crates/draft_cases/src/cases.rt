@@ -116,20 +116,16 @@ fn refused_with(heap: Global, text: &[u8], line: u64, words: &str) -> Result<boo
 /// The good text with another line in one place; a line behind the last has no end.
 fn with_line(heap: Global, line: u64, new: &str) -> Result<Vec<u8>, AllocError> {
     let mut text = Vec::new(heap);
-    let mut at = 1u64;
-    if line == 1 {
-        text.extend_from_slice(new.as_bytes())?;
-    }
-    for byte in GOOD.as_bytes() {
-        if *byte == b'\n' {
+    for (i, old) in GOOD.split('\n').enumerate() {
+        if i > 0 {
             text.push(b'\n')?;
-            at = at.saturating_add(1);
-            if at == line {
-                text.extend_from_slice(new.as_bytes())?;
-            }
-        } else if at != line {
-            text.push(*byte)?;
         }
+        let here = if (i as u64).saturating_add(1) == line {
+            new
+        } else {
+            old
+        };
+        text.extend_from_slice(here.as_bytes())?;
     }
     Ok(text)
 }
