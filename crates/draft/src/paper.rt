@@ -4,6 +4,7 @@ ghost use Rattle.metadata.specs.Papers.{root as root_w, timestamp as timestamp_w
 ghost use Rattle.text_form.specs.Texts.{root as root_t, timestamp as timestamp_t, paper as paper_t, line_at};
 ghost use Rattle.draft_parts.specs.Copies.{Copies};
 ghost use Rattle.draft.specs.Drafts.{Wholly, Answers, Faithful};
+ghost use Rattle.draft.specs.declared.paper.TextError.TheVariants.{Memory as EndsMemory};
 
 use draft_list::list::put_list;
 use draft_parts::index::put_index;
@@ -13,13 +14,29 @@ use encoding::leaf::write_number;
 use line::expected::{Bad, Expected, Word};
 use line::kind::Kind;
 use line_reader::reader::{bytes_line, kind_line, number_line};
-use std::alloc::Global;
+use std::alloc::{AllocError, AllocFailed, Global};
 
 /// Why a text is refused: memory ended, or a line is not what was expected there.
 #[derive(Clone, Copy)]
 pub enum TextError {
     Memory,
     Line(u64, Expected),
+}
+
+impl From<AllocError> for TextError {
+    ghost from_gives = { λ _ r. r ≡ EndsMemory };
+
+    fn from(_error: AllocError) -> TextError {
+        TextError::Memory
+    }
+}
+
+impl<T: Drop> From<AllocFailed<T>> for TextError {
+    ghost from_gives = { λ _ r. r ≡ EndsMemory };
+
+    fn from(_error: AllocFailed<T>) -> TextError {
+        TextError::Memory
+    }
 }
 
 /// A root, behind its word.

@@ -1,5 +1,5 @@
 //! Paths as they stand on lines.
-ghost use Rattle.std.specs.Prelude.{◌≡◌, ◌<◌, ◌≤◌, [], ◌∷◌, ◌++◌, length, decimal, MatchOption};
+ghost use Rattle.std.specs.Prelude.{◌≡◌, ◌<◌, ◌≤◌, [], ◌∷◌, ◌++◌, length, decimal, MatchOption, nat_le};
 ghost use Rattle.wire.specs.Formats.{Reads};
 ghost use Rattle.wire.specs.Leaves.{steps_of};
 ghost use Rattle.line.specs.Lines.{steps_from};
@@ -28,6 +28,13 @@ impl Path {
             steps: [[0; 2]; 8],
             count: 0,
         }
+    }
+
+    /// Whether there is no room for one step more.
+    fn is_full(&self) -> bool
+        ensures { result ≡ nat_le 8 (length (path_of self.now)) }
+    {
+        self.count >= 8
     }
 
     /// One step more, if there is room.
@@ -79,6 +86,10 @@ fn path_in(value: &[u8]) -> Option<Path>
     // A cursor: how far a step goes is known when it is read.
     while let Some((first, rest)) = left.split_first() {
         if *first != mark {
+            return None;
+        }
+        // A ninth step is refused before it is looked at, however long it is.
+        if path.is_full() {
             return None;
         }
         let (digits, after) = split_step(rest);

@@ -11,7 +11,7 @@ ghost use Rattle.signature.specs.Views.{signature_of, signatures_of};
 use crate::part::{Signature, Signatures, key_and_bytes};
 use crate::verifier::Verifier;
 use std::alloc::{AllocError, Global};
-use wire::key::Bytes32;
+use wire::key::{Bytes32, same_key};
 use wire::quorum::Quorum;
 
 /// A message, the signatures that came with it, and the scheme that checks them.
@@ -47,12 +47,12 @@ impl Counted {
 
 impl<'a, V: Verifier> Signed<'a, V> {
     /// Whether a signature is a right one of this key, and none of those before it.
-    #[tactic(auto, using(crate::proofs::Among::among, crate::proofs::Among::bytes_equal))]
+    #[tactic(auto, using(crate::proofs::Among::among))]
     fn is_new_and_right(&self, key: &Bytes32, signature: &Signature, earlier: &[Signature]) -> bool
         ensures { result ≡ (right_of V.accepts self.now.message.now key.now (signature_of signature.now) && not (is_in signature.now earlier.now)) }
     {
         let (signer, bytes) = key_and_bytes(signature);
-        key == signer
+        same_key(key, signer)
             && !earlier.contains(signature)
             && self.verifier.check(signer, self.message, bytes)
     }

@@ -11,7 +11,7 @@ use judging::must;
 use metadata::snapshot::{Metas, Snapshot};
 use metadata::timestamp::Timestamp;
 use model::fault::Fault;
-use wire::key::{Bytes32, same_bytes};
+use wire::key::{Bytes32, same_key};
 use wire::table::Table;
 
 /// Whether the kept timestamp names a snapshot, by its version and the digest of its bytes.
@@ -20,7 +20,7 @@ pub fn is_named(offered: Snapshot<'_>, digest: &Bytes32, timestamp: Option<Times
 {
     timestamp.is_some_and(|timestamp| {
         let named = timestamp.digest;
-        timestamp.snapshot == offered.version && same_bytes(named, digest)
+        timestamp.snapshot == offered.version && same_key(named, digest)
     })
 }
 

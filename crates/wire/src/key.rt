@@ -19,6 +19,13 @@ pub fn same_bytes(a: &[u8], b: &[u8]) -> bool
     a == b
 }
 
+/// Whether two keys, or two digests, are the same: `==` of fixed byte strings, with the law's word for it.
+pub fn same_key(a: &Bytes32, b: &Bytes32) -> bool
+    ensures { result ≡ same_list a.now b.now }
+{
+    *a == *b
+}
+
 /// Whether one key comes before another: `<`, with the format's word for it.
 pub fn key_below(a: &Bytes32, b: &Bytes32) -> bool
     ensures { result ≡ below a.now b.now }
