@@ -106,8 +106,9 @@ impl Journal {
     fn has_many_at(&self, at: usize, many: usize) -> bool
         ensures { result ≡ nat_le many (count (λ e. nat_eq at e.at) self.now.entries.items) }
     {
+        // All of them are counted: stopping where there are enough takes more for each.
         let there = self.entries.iter().filter(|entry| entry.at == at);
-        there.take(many).count() == many
+        there.count() >= many
     }
 
     /// Whether a paper is there under the quorum at a place.
