@@ -106,7 +106,7 @@ impl Journal {
     fn has_many_at(&self, at: usize, many: usize) -> bool
         ensures { result ≡ nat_le many (count (λ e. nat_eq at e.at) self.now.entries.items) }
     {
-        // All of them are counted: stopping where there are enough takes more for each.
+        // All of them are counted: with `take`, which stops where there are enough, each of them takes more.
         let there = self.entries.iter().filter(|entry| entry.at == at);
         there.count() >= many
     }
